@@ -1,0 +1,76 @@
+// Reference ids in four bytes each: the distance above a base in steps of 8 bytes, plus one; an id that does not fit is kept whole in a list of
+// escapes, by place (`Copied`).
+pub mod code;
+mod read;
+
+ghost use mathlib.Core.Path.{_≡_};
+ghost use lib.ListN.{length};
+ghost use Rattle.index.specs.Copied.{Coding, idSays, idsOf, readBack};
+
+// What coding answers: the lengths used of codes and of escapes; or the refusal.
+pub enum CodedIds {
+    Done { codes: usize, escapes: usize },
+    Room(usize),
+}
+
+// What reading one id back answers.
+pub enum CopiedId {
+    Id(u64),
+    Index(usize),
+    Copied(usize),
+}
+
+// Codes the ids over a base. The unused ends of the three columns are zero after acceptance, and all of them after a refusal.
+pub fn code_ids(
+    ids: &[u64],
+    base: u64,
+    codes: &mut [u32],
+    escape_places: &mut [u64],
+    escape_ids: &mut [u64],
+) -> CodedIds
+    ensures { λ r. ⌜ Coding base (now (ids .entry)) (length (now (codes .entry))) (length (now («escape_places» .entry))) (length (now («escape_ids» .entry))) r (now (codes .exit)) (now («escape_places» .exit)) (now («escape_ids» .exit)) ⌝ }
+{
+    let r = code::judge(
+        ids,
+        base,
+        codes.len(),
+        escape_places.len(),
+        escape_ids.len(),
+    );
+    if code::is_done(r) {
+        code::write_all(
+            ids,
+            base,
+            code::rows_of(r),
+            codes,
+            escape_places,
+            escape_ids,
+        );
+        return r;
+    }
+    code::zero_all(codes, escape_places, escape_ids);
+    r
+}
+
+// The id at i, read from the used parts of the three columns. An escape's row is found by bisection.
+pub fn id_at(
+    codes: &[u32],
+    escape_places: &[u64],
+    escape_ids: &[u64],
+    base: u64,
+    i: usize,
+) -> CopiedId
+    ensures { λ r. ⌜ idSays r ≡ readBack (idsOf (now (codes .entry)) (now («escape_places» .entry)) (now («escape_ids» .entry)) base) i ⌝ }
+{
+    if codes.len() <= i {
+        return CopiedId::Index(i);
+    }
+    let code = codes[i];
+    if code == 0 {
+        return CopiedId::Id(0);
+    }
+    if code == code::ESCAPED {
+        return read::escape_at(escape_places, escape_ids, i);
+    }
+    read::inline_at(base, code, i)
+}

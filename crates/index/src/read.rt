@@ -1,0 +1,44 @@
+// The steps of reading one id back.
+use super::CopiedId;
+ghost use mathlib.Core.Path.{_≡_};
+ghost use Prim.Native.Nat.{_+_, _-_, _*_, _<_};
+ghost use Rattle.columns.specs.Ranks.{bisect};
+ghost use Rattle.index.specs.Copied.{whole, escapeBack, idSays};
+
+// An id that stands for a code that is not zero, so it may not be zero either.
+fn id_of(id: u64, i: usize) -> CopiedId
+    ensures { λ r. ⌜ idSays r ≡ whole i id ⌝ }
+{
+    if id == 0 {
+        return CopiedId::Copied(i);
+    }
+    CopiedId::Id(id)
+}
+
+pub(crate) fn escape_at(places: &[u64], ids: &[u64], i: usize) -> CopiedId
+    ensures { λ r. ⌜ idSays r ≡ escapeBack (now (places .entry)) (now (ids .entry)) i (bisect (now (places .entry)) i) ⌝ }
+{
+    let at = i as u64;
+    let k = columns::bisect_u64(places, at);
+    if places.len() <= k {
+        return CopiedId::Copied(i);
+    }
+    if places[k] != at {
+        return CopiedId::Copied(i);
+    }
+    if ids.len() <= k {
+        return CopiedId::Copied(i);
+    }
+    id_of(ids[k], i)
+}
+
+pub(crate) fn inline_at(base: u64, code: u32, i: usize) -> CopiedId
+    requires { ⌜ 0 < code ⌝ }
+    ensures { λ r. ⌜ idSays r ≡ whole i (base + 8 * (code - 1)) ⌝ }
+{
+    let far = 8 * columns::wide(code - 1);
+    if 18446744073709551615 - base < far {
+        return CopiedId::Copied(i);
+    }
+    id_of(base + far, i)
+}

@@ -1,0 +1,9 @@
+// The worked dump of document 01, case by case.
+mod blocked;
+mod copied;
+
+fn main() {
+    print::word(b"The worked dump of document 01\n");
+    copied::show();
+    blocked::show();
+}
