@@ -1,0 +1,9 @@
+pub mod Basics
+pub mod Sorted
+pub mod Repeats
+pub mod Swap
+pub mod Puts
+pub mod Heaps
+pub mod Splits
+pub mod Thinning
+pub mod Run
