@@ -1,7 +1,9 @@
 pub mod Lists
 pub mod Tests
 pub mod Sums
-pub mod Search
-pub mod Written
+pub mod Every
 pub mod Ranks
+pub mod Search
+pub mod First
+pub mod Written
 pub mod Answers

@@ -1,14 +1,15 @@
 -- Bisection: what a turn of the loop keeps, and that in a list that rises it ends at the rank. Assumes nothing.
 use mathlib.Core.Path.{_≡_, refl, sym, ap, _∙_}
-use mathlib.Core.Logic.{⊎-elim}
+use mathlib.Core.Logic.{_⊎_, inl, inr, ⊎-elim}
 use mathlib.Core.List.{List, [], _∷_}
 use Prim.Native.Nat.{ℕ, zero, suc, _+_, _-_, _/_, _≤_, _<_, zero-le}
+use native.Mathlib.Nat.{not-suc-le-zero}
 use native.Mathlib.Omega.{arith}
 use borrow.Author.Tests.{lt-ltb, le-ltb}
 use lib.Dec.{ltb}
 use lib.ListN.{length}
 use Rattle.columns.specs.Lists.{_!_, one}
-use Rattle.columns.specs.Ranks.{Rises, rank, Ranked, halve, bisect}
+use Rattle.columns.specs.Ranks.{Rises, Climbs, rank, Ranked, halve, bisect}
 use Rattle.columns.proofs.Lists.{lt-or-ge}
 
 -- between lo and hi the bisection that is left ends at r
@@ -83,48 +84,67 @@ module _ (xs : List ℕ) (x r : ℕ) (below : (p : ℕ) → p < r → xs ! p < x
       (λ h. rw (le-ltb lo hi h) (omega arith))
       (lt-or-ge lo hi)
 
--- the rank: all before it is below x, and the rest is not
-rises-tail : (a : ℕ) (xs : List ℕ) → Rises (a ∷ xs) → Rises xs
-rises-tail a xs rise p q h l = rise (suc p) (suc q) (omega arith) (omega arith)
-
+-- The rank, one number more at the front at a time.
 pub rank-within : (xs : List ℕ) (x : ℕ) → rank xs x ≤ length xs
 unfolding rank
 rank-within [] x = omega arith
 rank-within (a ∷ xs) x = ⊎-elim (λ h. rw (lt-ltb a x h) (omega (arith, rank-within xs x))) (λ h. rw (le-ltb a x h) (omega (arith, rank-within xs x))) (lt-or-ge a x)
 
-all-above : (a : ℕ) (xs : List ℕ) (x : ℕ) → Rises (a ∷ xs) → x ≤ a → (p : ℕ) → p < length (a ∷ xs) → x ≤ (a ∷ xs) ! p
-all-above a xs x rise h zero l = h
-all-above a xs x rise h (suc p) l = omega (arith, rise 0 (suc p) (omega arith) l)
-
-rank-none : (xs : List ℕ) (x : ℕ) → ((p : ℕ) → p < length xs → x ≤ xs ! p) → rank xs x ≡ 0
+pub rank-zero : (xs : List ℕ) (x : ℕ) → ((i : ℕ) → i < length xs → x ≤ xs ! i) → rank xs x ≡ 0
 unfolding rank
-rank-none [] x h = refl
-rank-none (a ∷ xs) x h = rw (le-ltb a x (h 0 (omega arith))) (omega (arith, rank-none xs x (λ p l. h (suc p) (omega arith))))
+rank-zero [] x h = refl
+rank-zero (a ∷ xs) x h = rw (le-ltb a x (h 0 (omega arith))) (omega (arith, rank-zero xs x (λ i l. h (suc i) (omega arith))))
 
-pub rank-below : (xs : List ℕ) (x : ℕ) → Rises xs → (p : ℕ) → p < rank xs x → xs ! p < x
+pub rank-more : (a : ℕ) (xs : List ℕ) (x : ℕ) → a < x → rank (a ∷ xs) x ≡ suc (rank xs x)
 unfolding rank
-rank-below [] x rise p l = absurd (omega arith)
-rank-below (a ∷ xs) x rise zero l = ⊎-elim (λ h. h) (λ h. absurd (omega (arith, rank-none (a ∷ xs) x (all-above a xs x rise h)))) (lt-or-ge a x)
-rank-below (a ∷ xs) x rise (suc p) l =
-    ⊎-elim
-    (λ h. rank-below xs x (rises-tail a xs rise) p (omega (arith, rw (lt-ltb a x h) at l)))
-    (λ h. absurd (omega (arith, rank-none (a ∷ xs) x (all-above a xs x rise h))))
-    (lt-or-ge a x)
+rank-more a xs x h = rw (lt-ltb a x h) (omega arith)
 
-pub rank-above : (xs : List ℕ) (x : ℕ) → Rises xs → (p : ℕ) → rank xs x ≤ p → p < length xs → x ≤ xs ! p
+pub rank-same : (a : ℕ) (xs : List ℕ) (x : ℕ) → x ≤ a → rank (a ∷ xs) x ≡ rank xs x
 unfolding rank
-rank-above [] x rise p h l = absurd (omega arith)
-rank-above (a ∷ xs) x rise zero h l = ⊎-elim (λ g. absurd (omega (arith, rw (lt-ltb a x g) at h))) (λ g. g) (lt-or-ge a x)
-rank-above (a ∷ xs) x rise (suc p) h l =
-    ⊎-elim
-    (λ g. rank-above xs x (rises-tail a xs rise) p (omega (arith, rw (lt-ltb a x g) at h)) (omega arith))
-    (λ g. all-above a xs x rise g (suc p) l)
-    (lt-or-ge a x)
+rank-same a xs x h = rw (le-ltb a x h) (omega arith)
 
--- In a list that rises, bisection ends at the rank.
-pub bisect-rank : (xs : List ℕ) (x : ℕ) → Rises xs → bisect xs x ≡ rank xs x
+-- In a list that never falls all before the rank is below x, and the rest is not; so bisection ends there.
+pub head-least : (a : ℕ) (xs : List ℕ) → Climbs (a ∷ xs) → (i : ℕ) → i < length xs → a ≤ xs ! i
+head-least a xs h zero l = h 0 (omega arith)
+head-least a xs h (suc i) l = omega (arith, head-least a xs h i (omega arith), h (suc i) (omega arith))
+
+climbs-below : (xs : List ℕ) (x : ℕ) → Climbs xs → (i : ℕ) → i < rank xs x → xs ! i < x
+climbs-below [] x h i l = absurd (omega (arith, rank-zero [] x (λ j m. absurd (not-suc-le-zero m))))
+climbs-below (a ∷ xs) x h i l = go (lt-or-ge a x) i l (climbs-below xs x (λ j m. h (suc j) (omega arith)))
+  where
+    go : (a < x) ⊎ (x ≤ a) → (i : ℕ) → i < rank (a ∷ xs) x → ((i : ℕ) → i < rank xs x → xs ! i < x) → (a ∷ xs) ! i < x
+    go (inl m) zero l ih = m
+    go (inl m) (suc i) l ih = ih i (omega (arith, rank-more a xs x m))
+    go (inr m) i l ih = absurd (omega (arith, rank-same a xs x m, rank-zero xs x (λ j k. omega (arith, head-least a xs h j k))))
+
+climbs-above : (xs : List ℕ) (x : ℕ) → Climbs xs → (i : ℕ) → rank xs x ≤ i → i < length xs → x ≤ xs ! i
+climbs-above [] x h i m l = absurd (not-suc-le-zero l)
+climbs-above (a ∷ xs) x h i m l = go (lt-or-ge a x) i m l (climbs-above xs x (λ j k. h (suc j) (omega arith)))
+  where
+    go : (a < x) ⊎ (x ≤ a) → (i : ℕ) → rank (a ∷ xs) x ≤ i → i < suc (length xs) → ((i : ℕ) → rank xs x ≤ i → i < length xs → x ≤ xs ! i) → x ≤ (a ∷ xs) ! i
+    go (inl q) zero m l ih = absurd (omega (arith, rank-more a xs x q))
+    go (inl q) (suc i) m l ih = ih i (omega (arith, rank-more a xs x q)) (omega arith)
+    go (inr q) zero m l ih = q
+    go (inr q) (suc i) m l ih = omega (arith, head-least a xs h i (omega arith))
+
+pub bisect-climbs : (xs : List ℕ) (x : ℕ) → Climbs xs → bisect xs x ≡ rank xs x
 unfolding bisect
-bisect-rank xs x rise = halve-ends xs x (rank xs x) (rank-below xs x rise) (rank-above xs x rise) (length xs) 0 (length xs) zero-le (rank-within xs x) (omega arith) (omega arith)
+bisect-climbs xs x h = halve-ends xs x (rank xs x) (climbs-below xs x h) (climbs-above xs x h) (length xs) 0 (length xs) zero-le (rank-within xs x) (omega arith) (omega arith)
+
+-- A list that rises never falls.
+rises-climbs : (xs : List ℕ) → Rises xs → Climbs xs
+rises-climbs xs rise i l = omega (arith, rise i (suc i) (omega arith) l)
+
+module _ (xs : List ℕ) (x : ℕ) (rise : Rises xs) where
+  pub rank-below : (p : ℕ) → p < rank xs x → xs ! p < x
+  rank-below = climbs-below xs x (rises-climbs xs rise)
+
+  pub rank-above : (p : ℕ) → rank xs x ≤ p → p < length xs → x ≤ xs ! p
+  rank-above = climbs-above xs x (rises-climbs xs rise)
+
+  -- In a list that rises, bisection ends at the rank.
+  pub bisect-rank : bisect xs x ≡ rank xs x
+  bisect-rank = bisect-climbs xs x (rises-climbs xs rise)
 
 pub bisect-ranked : (xs : List ℕ) (x r : ℕ) → r ≡ bisect xs x → Ranked xs x r
 unfolding bisect
@@ -138,3 +158,34 @@ bisect-found xs k rise l =
     (λ p h. rise p k h l)
     (λ p h lp. ⊎-elim (λ g. omega (arith, rise k p g lp)) (λ g. let e : p ≡ k = omega arith in rw e (omega arith)) (lt-or-ge k p))
     (length xs) 0 (length xs) zero-le (omega arith) (omega arith) (omega arith)
+
+-- The rank is the one place that has the smaller numbers before it and the others from it on.
+module _ (xs : List ℕ) (x : ℕ) (rise : Rises xs) where
+  pub rank-is : (r : ℕ) → r ≤ length xs → ((p : ℕ) → p < r → xs ! p < x) → ((p : ℕ) → r ≤ p → p < length xs → x ≤ xs ! p) → r ≡ rank xs x
+  rank-is r h below above =
+      ⊎-elim
+      (λ l. absurd (omega (arith, rank-below xs x rise r l, above r (omega arith) (omega (arith, rank-within xs x)))))
+      (λ g. ⊎-elim
+      (λ l. absurd (omega (arith, below (rank xs x) l, rank-above xs x rise (rank xs x) (omega arith) (omega arith))))
+      (λ l. omega arith)
+      (lt-or-ge (rank xs x) r))
+      (lt-or-ge r (rank xs x))
+
+module _ (xs : List ℕ) (x k : ℕ) (rise : Rises xs) (e : k ≡ rank xs x) where
+  pub rank-next-hit : k < length xs → xs ! k ≡ x → k + 1 ≡ rank xs (x + 1)
+  rank-next-hit l h =
+      rank-is xs (x + 1) rise (k + 1) (omega arith)
+      (λ p g. ⊎-elim (λ f. omega (arith, rise p k f l)) (λ f. let q : p ≡ k = omega arith in rw q (omega arith)) (lt-or-ge p k))
+      (λ p g m. omega (arith, rise k p (omega arith) m))
+
+  pub rank-next-miss : (k < length xs → xs ! k ≡ x → ⊥) → k ≡ rank xs (x + 1)
+  rank-next-miss n =
+      rank-is xs (x + 1) rise k (omega (arith, rank-within xs x))
+      (λ p g. omega (arith, rank-below xs x rise p (omega arith)))
+      (λ p g m. ⊎-elim
+      (λ f. omega (arith, rise k p f m, rank-above xs x rise k (omega arith) (omega arith)))
+      (λ f. let q : p ≡ k = omega arith in rw q (above (rank-above xs x rise k (omega arith) (omega arith)) (n (omega arith))))
+      (lt-or-ge k p))
+    where
+      above : x ≤ xs ! k → (xs ! k ≡ x → ⊥) → x + 1 ≤ xs ! k
+      above h n = ⊎-elim (λ l. omega arith) (λ l. absurd (n (omega arith))) (lt-or-ge x (xs ! k))

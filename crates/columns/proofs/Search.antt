@@ -1,24 +1,28 @@
 -- Search: what is found stands there, in a list, in a list that rises, and in rows by their places. Assumes nothing.
-use Prim.Native.Nat.{ℕ, zero, suc, _+_, _≤_, _<_}
+use Prim.Native.Nat.{ℕ, zero, suc, _≤_, _<_}
 use native.Mathlib.Nat.{not-suc-le-zero}
 use native.Mathlib.Omega.{arith}
 use native.Mathlib.Decide.{decLt}
 use mathlib.Core.Path.{_≡_, refl, sym, ap, _∙_}
-use mathlib.Core.Bool.{Bool, true, false, cond, false≢true, _||_}
+use mathlib.Core.Logic.{_⊎_, inl, inr, ⊎-elim}
+use mathlib.Core.Bool.{Bool, true, false, cond, false≢true, _||_, _&&_}
 use mathlib.Core.List.{List, [], _∷_, _++_, map}
 use mathlib.Core.Option.{Option, none, some}
-use lib.Dec.{eqb}
+use lib.Dec.{eqb, ltb}
 use lib.ListN.{length}
-use borrow.Author.Tests.{eqb-true, eq-eqb, ne-eqb}
-use Rattle.columns.specs.Lists.{_!_, places, find, next, found, lookup}
-use Rattle.columns.specs.Ranks.{Rises}
-use Rattle.columns.proofs.Lists.{places-at}
+use borrow.Author.Tests.{eqb-true, eqb-false, eq-eqb, ne-eqb, ltb-true, ltb-false, lt-ltb, le-ltb}
+use Rattle.columns.specs.Lists.{_!_, places, find, next, found, lookup, allOf}
+use Rattle.columns.specs.Ranks.{Rises, rank, bisect}
+use Rattle.columns.proofs.Lists.{lt-or-ge, places-at}
+use Rattle.columns.proofs.Tests.{or-true}
+use Rattle.columns.proofs.Ranks.{bisect-rank, rank-below, rank-above}
 
 pub find-get : (ks : List ℕ) (v i : ℕ) → find ks v ≡ some i → (i < length ks) × (ks ! i ≡ v)
 find-get [] v i e = let z : _≡_ {A = ℕ} 0 1 = cc in omega arith
 find-get (k ∷ ks) v i e = go (eqb k v) refl (find ks v) refl e (find-get ks v)
   where
-    go : (b : Bool) → eqb k v ≡ b → (f : Option ℕ) → find ks v ≡ f → cond b (some 0) (next f) ≡ some i → ((j : ℕ) → find ks v ≡ some j → (j < length ks) × (ks ! j ≡ v)) → (i < suc (length ks)) × ((k ∷ ks) ! i ≡ v)
+    go : (b : Bool) → eqb k v ≡ b → (f : Option ℕ) → find ks v ≡ f → cond b (some 0) (next f) ≡ some i
+        → ((j : ℕ) → find ks v ≡ some j → (j < length ks) × (ks ! j ≡ v)) → (i < suc (length ks)) × ((k ∷ ks) ! i ≡ v)
     go true t f ef e ih = let z : _≡_ {A = ℕ} 0 i = cc in rw (← z) (omega arith, eqb-true k v t)
     go false t none ef e ih = let z : _≡_ {A = ℕ} 0 1 = cc in absurd (omega arith)
     go false t (some j) ef e ih = let z : suc j ≡ i = cc in rw (← z) (omega (arith, ih j ef .0), ih j ef .1)
@@ -27,23 +31,23 @@ pub find-none : (ks : List ℕ) (v : ℕ) → ((i : ℕ) → i < length ks → k
 find-none [] v h = refl
 find-none (k ∷ ks) v h = rw (ne-eqb k v (h 0 (omega arith)), find-none ks v (λ i l. h (suc i) (omega arith)))
 
+-- the first place where it stands is where it is found
+pub find-first : (ks : List ℕ) (v i : ℕ) → i < length ks → ks ! i ≡ v → ((p : ℕ) → p < i → ks ! p ≡ v → ⊥) → find ks v ≡ some i
+find-first [] v i l e h = absurd (not-suc-le-zero l)
+find-first (k ∷ ks) v zero l e h = rw (eq-eqb k v e)
+find-first (k ∷ ks) v (suc i) l e h = rw (ne-eqb k v (h 0 (omega arith)), find-first ks v i (omega arith) e (λ p g. h (suc p) (omega arith)))
+
 -- What a search of rising numbers answers: the place of an equal one, or none where the neighbours leave no room for one.
 pub find-at : (xs : List ℕ) (v i : ℕ) → Rises xs → i < length xs → xs ! i ≡ v → find xs v ≡ some i
-find-at [] v i r h e = absurd (not-suc-le-zero h)
-find-at (a ∷ xs) v zero r h e = rw (eq-eqb a v e)
-find-at (a ∷ xs) v (suc i) r h e =
-    rw (ne-eqb a v (λ q. omega (arith, r 0 (suc i) (omega arith) h)), find-at xs v i (λ j k l m. r (suc j) (suc k) (omega arith) (omega arith)) (omega arith) e)
+find-at xs v i r h e = find-first xs v i h e (λ p l q. omega (arith, r p i l h))
 
-pub find-gap : (xs : List ℕ) (v p : ℕ) → Rises xs → ((i : ℕ) → i < p → i < length xs → xs ! i < v) → ((i : ℕ) → p ≤ i → i < length xs → v < xs ! i) → find xs v ≡ none
+pub find-gap : (xs : List ℕ) (v p : ℕ) → Rises xs → ((i : ℕ) → i < p → i < length xs → xs ! i < v) → ((i : ℕ) → p ≤ i → i < length xs → v < xs ! i)
+    → find xs v ≡ none
 find-gap xs v p r lo hi = find-none xs v (λ i l e. go i l e (decLt i p))
   where
     go : (i : ℕ) → i < length xs → xs ! i ≡ v → Dec (i < p) → ⊥
     go i l e (yes q) = omega (arith, lo i q l)
     go i l e (no q) = omega (arith, hi i (omega arith) l)
-
-or-true : (b : Bool) → b || true ≡ true
-or-true true = refl
-or-true false = refl
 
 found-next : (f : Option ℕ) → found (next f) ≡ found f
 found-next none = refl
@@ -53,7 +57,8 @@ found-append : (xs ys : List ℕ) (v : ℕ) → found (find (xs ++ ys) v) ≡ fo
 found-append [] ys v = refl
 found-append (a ∷ xs) ys v = go (eqb a v) (found-append xs ys v)
   where
-    go : (b : Bool) → found (find (xs ++ ys) v) ≡ found (find xs v) || found (find ys v) → found (cond b (some 0) (next (find (xs ++ ys) v))) ≡ found (cond b (some 0) (next (find xs v))) || found (find ys v)
+    go : (b : Bool) → found (find (xs ++ ys) v) ≡ found (find xs v) || found (find ys v)
+        → found (cond b (some 0) (next (find (xs ++ ys) v))) ≡ found (cond b (some 0) (next (find xs v))) || found (find ys v)
     go true e = refl
     go false e = rw (found-next (find (xs ++ ys) v), found-next (find xs v)) e
 
@@ -67,6 +72,42 @@ pub lookup-map : (f : ℕ → ℕ) (ks : List ℕ) (v : ℕ) → found (find ks 
 lookup-map f [] v e = absurd (false≢true e)
 lookup-map f (k ∷ ks) v e = go (eqb k v) refl e (lookup-map f ks v)
   where
-    go : (b : Bool) → eqb k v ≡ b → found (cond b (some 0) (next (find ks v))) ≡ true → (found (find ks v) ≡ true → lookup ks (map f ks) v ≡ f v) → cond b (f k) (lookup ks (map f ks) v) ≡ f v
+    go : (b : Bool) → eqb k v ≡ b → found (cond b (some 0) (next (find ks v))) ≡ true → (found (find ks v) ≡ true → lookup ks (map f ks) v ≡ f v)
+        → cond b (f k) (lookup ks (map f ks) v) ≡ f v
     go true t e ih = ap f (eqb-true k v t)
     go false t e ih = ih (rw (found-next (find ks v)) at e)
+
+-- Bisection in a list that rises finds what the search of the whole list finds.
+pub find-bisect : (xs : List ℕ) (v : ℕ) → Rises xs
+    → find xs v ≡ cond (allOf (ltb (bisect xs v) (length xs) ∷ eqb (xs ! bisect xs v) v ∷ [])) (some (bisect xs v)) none
+unfolding allOf
+find-bisect xs v rise = rw (bisect-rank xs v rise) (go (ltb r (length xs)) refl (eqb (xs ! r) v) refl)
+  where
+    r : ℕ
+    r = rank xs v
+
+    absent : ((i : ℕ) → i < length xs → xs ! i ≡ v → i ≡ r → ⊥) → find xs v ≡ none
+    absent h = find-none xs v (λ i l e. at-rank i l e (lt-or-ge i r))
+      where
+        at-rank : (i : ℕ) → i < length xs → xs ! i ≡ v → (i < r) ⊎ (r ≤ i) → ⊥
+        at-rank i l e (inl m) = omega (arith, rank-below xs v rise i m)
+        at-rank i l e (inr m) =
+            ⊎-elim (λ (g : r < i). omega (arith, rise r i g l, rank-above xs v rise r (omega arith) (omega arith))) (λ (g : i ≤ r). h i l e (omega arith))
+            (lt-or-ge r i)
+
+    go : (a : Bool) → ltb r (length xs) ≡ a → (b : Bool) → eqb (xs ! r) v ≡ b → find xs v ≡ cond (a && (b && true)) (some r) none
+    go true s true t = find-at xs v r rise (ltb-true _ _ s) (eqb-true _ _ t)
+    go true s false t = absent (λ i l e q. eqb-false _ _ t (ap (λ (j : ℕ). xs ! j) (sym q) ∙ e))
+    go false s b t = absent (λ i l e q. omega (arith, ltb-false r (length xs) s))
+
+-- the row that is found holds the value looked up
+pub lookup-find : (ks vs : List ℕ) (v i : ℕ) → length ks ≡ length vs → find ks v ≡ some i → lookup ks vs v ≡ vs ! i
+lookup-find [] vs v i l e = let z : _≡_ {A = ℕ} 0 1 = cc in absurd (omega arith)
+lookup-find (k ∷ ks) [] v i l e = absurd (omega arith)
+lookup-find (k ∷ ks) (a ∷ vs) v i l e = go (eqb k v) (find ks v) refl e (λ j. lookup-find ks vs v j (omega arith))
+  where
+    go : (b : Bool) (u : Option ℕ) → find ks v ≡ u → cond b (some 0) (next u) ≡ some i → ((j : ℕ) → find ks v ≡ some j → lookup ks vs v ≡ vs ! j)
+        → cond b a (lookup ks vs v) ≡ (a ∷ vs) ! i
+    go true u f e ih = let z : _≡_ {A = ℕ} 0 i = cc in rw (← z)
+    go false none f e ih = let z : _≡_ {A = ℕ} 0 1 = cc in absurd (omega arith)
+    go false (some j) f e ih = let z : suc j ≡ i = cc in rw (← z) (ih j f)

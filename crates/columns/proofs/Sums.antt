@@ -9,7 +9,7 @@ use lib.Seq.{ext-getD, getD-take, getD-drop, getD-append-add}
 use mathlib.Core.Path.{_≡_, refl, sym, ap, ap₂, _∙_}
 use mathlib.Core.Bool.{Bool, true, false, cond}
 use mathlib.Core.List.{List, [], _∷_, _++_, map, append-assoc, append-nil}
-use lib.ListN.{length, getD, take, drop, length-append, length-take, length-drop, List·getD-append}
+use lib.ListN.{length, getD, drop, length-append, length-take, length-drop, List·getD-append}
 use Rattle.columns.specs.Lists.{_!_, collect, tab, total, flat, sum, insert, sort, part}
 
 module _ {A : Type 0} (f : A → ℕ) where
@@ -124,11 +124,13 @@ total-mono f (suc n) i h = go (decLt i n) (total-mono f n i)
     go (no p) ih = let e : i ≡ n = omega arith in rw e (omega arith)
 
 -- Element k of part o stands behind the lengths of the parts before it.
-pub getD-collect : {A : Type 0} (f : ℕ → List A) (d : A) (n o k : ℕ) → o < n → k < length (f o) → getD (collect f n) (total (λ i. length (f i)) o + k) d ≡ getD (f o) k d
+pub getD-collect : {A : Type 0} (f : ℕ → List A) (d : A) (n o k : ℕ) → o < n → k < length (f o)
+    → getD (collect f n) (total (λ i. length (f i)) o + k) d ≡ getD (f o) k d
 getD-collect f d zero o k h l = absurd (not-suc-le-zero h)
 getD-collect f d (suc n) o k h l = go (decLt o n) (λ p. getD-collect f d n o k p l)
   where
-    go : Dec (o < n) → (o < n → getD (collect f n) (total (λ i. length (f i)) o + k) d ≡ getD (f o) k d) → getD (collect f n ++ f n) (total (λ i. length (f i)) o + k) d ≡ getD (f o) k d
+    go : Dec (o < n) → (o < n → getD (collect f n) (total (λ i. length (f i)) o + k) d ≡ getD (f o) k d)
+        → getD (collect f n ++ f n) (total (λ i. length (f i)) o + k) d ≡ getD (f o) k d
     go (yes p) ih = List·getD-append (collect f n) (f n) d _ (omega (arith, total-mono (λ i. length (f i)) n o p, length-collect f n)) ∙ ih p
     go (no p) ih =
         let e : o ≡ n = omega arith in
@@ -164,6 +166,8 @@ part-length xs a b h = simp (length-take, length-drop) (omega arith)
 pub part-collect : (f : ℕ → List ℕ) (n o : ℕ) → o < n → part (collect f n) (total (λ i. length (f i)) o) (total (λ i. length (f i)) (suc o)) ≡ f o
 part-collect f n o h =
     let t : ℕ → ℕ = total (λ i. length (f i)) in
-    let size : length (part (collect f n) (t o) (t o + length (f o))) ≡ length (f o) = simp (length-take, length-drop, length-collect) (omega (arith, total-mono (λ i. length (f i)) n o h)) in
+    let size : length (part (collect f n) (t o) (t o + length (f o))) ≡ length (f o)
+    = simp (length-take, length-drop, length-collect) (omega (arith, total-mono (λ i. length (f i)) n o h)) in
     ext-getD 0 (part (collect f n) (t o) (t o + length (f o))) (f o) size
-    (λ k l. getD-take (t o + length (f o) - t o) (drop (t o) (collect f n)) k 0 (omega arith) ∙ getD-drop (t o) (collect f n) k 0 ∙ getD-collect f 0 n o k h (omega arith))
+    (λ k l. getD-take (t o + length (f o) - t o) (drop (t o) (collect f n)) k 0 (omega arith) ∙ getD-drop (t o) (collect f n) k 0
+    ∙ getD-collect f 0 n o k h (omega arith))

@@ -3,11 +3,17 @@ use Prim.Native.Nat.{ℕ, zero, suc, _<_}
 use native.Mathlib.Nat.{not-suc-le-zero}
 use native.Mathlib.Omega.{arith}
 use native.Mathlib.Decide.{decLt}
-use mathlib.Core.Path.{_≡_, refl}
-use mathlib.Core.Bool.{Bool, true, false, cond, _||_}
-use mathlib.Core.List.{List, [], _∷_, _++_, append-nil}
+use mathlib.Core.Path.{_≡_, refl, sym}
+use mathlib.Core.Logic.{⊎-elim}
+use mathlib.Core.Bool.{Bool, true, false, cond, not, _||_}
+use mathlib.Core.List.{List, [], _∷_, _++_, map}
 use lib.ListN.{length, getD}
-use Rattle.columns.specs.Lists.{places, allOf, anyOf, any}
+use Rattle.columns.proofs.Lists.{lt-or-ge}
+use Rattle.columns.specs.Lists.{collect, places, allOf, anyOf, any}
+
+pub or-true : (b : Bool) → b || true ≡ true
+or-true true = refl
+or-true false = refl
 
 pub or-false : (a b : Bool) → a || b ≡ false → (a ≡ false) × (b ≡ false)
 or-false true b e = let z : _≡_ {A = ℕ} 0 1 = cc in absurd (omega arith)
@@ -90,3 +96,36 @@ one-place t (suc n) c l e h = go (decLt c n) (λ m. one-place t n c m e (λ i k 
         let q : n ≡ c = omega arith in
         let z : t n ≡ true = rw q e in
         rw (no-places t n (λ i k. h i (omega arith) (λ d. omega arith)), z, q)
+
+pub not-true : (b : Bool) → not b ≡ false → b ≡ true
+not-true true e = refl
+not-true false e = sym e
+
+-- tests that fail, put together
+pub all-fails : (a b : Bool) → (a ≡ true → b ≡ false) → allOf (a ∷ b ∷ []) ≡ false
+unfolding allOf
+all-fails true b h = rw (h refl)
+all-fails false b h = refl
+
+-- lists that are empty
+pub collect-none : {A : Type 0} (f : ℕ → List A) (n : ℕ) → ((i : ℕ) → i < n → f i ≡ []) → collect f n ≡ []
+collect-none f zero h = refl
+collect-none f (suc n) h = rw (collect-none f n (λ i l. h i (omega arith)), h n (omega arith))
+
+pub collect-empty : {A : Type 0} (f : ℕ → List A) (n : ℕ) → collect f n ≡ [] → (i : ℕ) → i < n → f i ≡ []
+collect-empty f zero e i l = absurd (omega arith)
+collect-empty f (suc n) e i l = go (decLt i n) (append-empty (collect f n) (f n) e) (λ q. collect-empty f n q i)
+  where
+    go : Dec (i < n) → (collect f n ≡ []) × (f n ≡ []) → (collect f n ≡ [] → i < n → f i ≡ []) → f i ≡ []
+    go (yes m) q ih = ih (q .0) m
+    go (no m) q ih = let z : i ≡ n = omega arith in rw z (q .1)
+
+pub map-empty : {A B : Type 0} (f : A → B) (xs : List A) → map f xs ≡ [] → xs ≡ []
+map-empty f [] e = refl
+map-empty f (a ∷ xs) e = let z : _≡_ {A = ℕ} 0 1 = cc in absurd (omega arith)
+
+-- of tests one of which holds, some test does
+pub some-any : (t : ℕ → Bool) (n i : ℕ) → i < n → t i ≡ true → any t n ≡ true
+unfolding any
+some-any t zero i l h = absurd (not-suc-le-zero l)
+some-any t (suc n) i l h = ⊎-elim (λ g. rw (some-any t n i g h)) (λ g. let e : n ≡ i = omega arith in rw (e, h) (or-true (any t i))) (lt-or-ge i n)

@@ -11,6 +11,10 @@ use Rattle.columns.specs.Lists.{_!_, sum, one}
 abbrev pub Rises : List ℕ → Type 0
 Rises xs = (p q : ℕ) → p < q → q < length xs → xs ! p < xs ! q
 
+-- no number of xs is above the next
+abbrev pub Climbs : List ℕ → Type 0
+Climbs xs = (i : ℕ) → suc i < length xs → xs ! i ≤ xs ! suc i
+
 -- how many numbers of xs are below x
 unfoldable pub rank : List ℕ → ℕ → ℕ
 rank xs x = sum (λ a. one (ltb a x)) xs

@@ -1,0 +1,292 @@
+-- What acceptance gives, by name. Assumes nothing.
+use Prim.Native.Nat.{ℕ, zero, suc, _+_, _-_, _≤_, _<_}
+use native.Mathlib.Nat.{not-suc-le-zero, add-suc}
+use native.Mathlib.Numerals.{add-one}
+use native.Mathlib.Omega.{arith}
+use native.Mathlib.Decide.{decLt}
+use mathlib.Core.Path.{_≡_, refl, sym, ap, _∙_}
+use mathlib.Core.Bool.{Bool, true, false, cond, false≢true}
+use mathlib.Core.List.{List, [], _∷_, _++_}
+use mathlib.Core.Option.{none, some}
+use lib.Dec.{eqb}
+use lib.ListN.{length}
+use borrow.Author.Tests.{eqb-true, eqb-false, leb-false, ltb-false, lt-ltb}
+use Rattle.columns.specs.Lists.{_!_, places, find}
+use Rattle.columns.specs.Columns.{accepts}
+use Rattle.columns.specs.Ranks.{Rises}
+use Rattle.columns.proofs.Tests.{none-of, not-true, each-of, second-fails, any-false, append-empty, places-none, one-place}
+use Rattle.columns.proofs.Search.{find-none, find-at}
+use Rattle.rules.specs.Input.{Input, Copied, Raw, Route.copied, Route.raw, objectCount, classCount, slotCount, elementCount, slotTotal, slotPlace}
+use Rattle.rules.specs.Input.{staticTotal, staticPlace, classOf, slotOf, foundAt, classesAt}
+use Rattle.rules.specs.Edges.{graph}
+use Rattle.rules.specs.Places.{placeCount}
+use Rattle.rules.specs.Needs.{Rooms, shortOfBuild}
+use Rattle.rules.specs.Verdict.{firstOf, at, once, schemaLengths, routeLengths, badLengths, badLimit, overLimit, badObject, badClass, badSlot}
+use Rattle.rules.specs.Verdict.{badStatic, badFind, badDumped, foundBadly, badCopied, badSpan, badPart, badRoot, overPlaces, faults, checkSays, counts}
+use Rattle.rules.specs.Verdict.{buildSays}
+
+-- faults that refuse: an answer that accepts has met none of them
+pub record Refuse (fs : List (List ℕ)) : Type 0 where
+  pub none-met : (done : List ℕ) → accepts (firstOf fs done) ≡ true → fs ≡ []
+
+pub refuse-append : {fs gs : List (List ℕ)} → Refuse fs → Refuse gs → Refuse (fs ++ gs)
+refuse-append {fs} {gs} a b = record { none-met = λ done e. go done fs (a .none-met done) e }
+  where
+    go : (done : List ℕ) (fs : List (List ℕ)) → (accepts (firstOf fs done) ≡ true → fs ≡ []) → accepts (firstOf (fs ++ gs) done) ≡ true → fs ++ gs ≡ []
+    go done [] h e = b .none-met done e
+    go done (f ∷ fs) h e = let z : _≡_ {A = List (List ℕ)} (f ∷ fs) [] = h e in let z′ : _≡_ {A = ℕ} 0 1 = cc in absurd (omega arith)
+
+pub refuse-at : (n : ℕ) → eqb n 0 ≡ false → (ps : List ℕ) → Refuse (at n ps)
+unfolding accepts at
+refuse-at n e ps = record { none-met = λ done a. go done ps a }
+  where
+    go : (done ps : List ℕ) → accepts (firstOf (at n ps) done) ≡ true → at n ps ≡ []
+    go done [] a = refl
+    go done (p ∷ ps) a = absurd (false≢true (sym e ∙ a))
+
+pub at-empty : (n : ℕ) (ps : List ℕ) → at n ps ≡ [] → ps ≡ []
+unfolding at
+at-empty n [] e = refl
+at-empty n (p ∷ ps) e = let z : _≡_ {A = ℕ} 0 1 = cc in absurd (omega arith)
+
+pub once-empty : (b : Bool) → once b ≡ [] → b ≡ false
+once-empty true e = let z : _≡_ {A = ℕ} 0 1 = cc in absurd (omega arith)
+once-empty false e = refl
+
+-- The tests that an accepted input passed.
+pub record Passed (x : Input) : Type 0 where
+  pub lengths : badLengths x ≡ false
+  pub limits : badLimit x ≡ false
+  pub object : (o : ℕ) → o < objectCount x → badObject x o ≡ false
+  pub class : (c : ℕ) → c < classCount (x .schema) → badDumped x c ≡ false
+  pub copied : badCopied (x .route) ≡ []
+  pub span : (o : ℕ) → o < objectCount x → badSpan x o ≡ false
+  pub root : (i : ℕ) → i < length (x .roots) → badRoot (objectCount x) (x .roots) i ≡ false
+  pub few-places : overPlaces (placeCount x) ≡ false
+
+pub passed : (x : Input) → faults x ≡ [] → Passed x
+unfolding faults
+passed x e =
+    let e8 = append-empty _ (at 8 (once (overPlaces (placeCount x)))) e in
+    let e7 = append-empty _ (at 7 (places (badRoot (objectCount x) (x .roots)) (length (x .roots)))) (e8 .0) in
+    let e6 = append-empty _ (at 6 (places (badSpan x) (objectCount x))) (e7 .0) in
+    let e5 = append-empty _ (at 5 (badCopied (x .route))) (e6 .0) in
+    let e4 = append-empty _ (at 4 (places (badDumped x) (classCount (x .schema)))) (e5 .0) in
+    let e3 = append-empty _ (at 3 (places (badObject x) (objectCount x))) (e4 .0) in
+    let e2 = append-empty (at 1 (once (badLengths x))) (at 2 (once (badLimit x))) (e3 .0) in
+    record {
+      lengths = once-empty _ (at-empty 1 _ (e2 .0));
+      limits = once-empty _ (at-empty 2 _ (e2 .1));
+      object = λ o h. places-none (badObject x) _ o (at-empty 3 _ (e3 .1)) h;
+      class = λ c h. places-none (badDumped x) _ c (at-empty 4 _ (e4 .1)) h;
+      copied = at-empty 5 _ (e5 .1);
+      span = λ o h. places-none (badSpan x) _ o (at-empty 6 _ (e6 .1)) h;
+      root = λ i h. places-none (badRoot (objectCount x) (x .roots)) _ i (at-empty 7 _ (e7 .1)) h;
+      few-places = once-empty _ (at-empty 8 _ (e8 .1));
+    }
+
+pub faults-refuse : (x : Input) → Refuse (faults x)
+unfolding faults
+faults-refuse x =
+    refuse-append (refuse-append (refuse-append (refuse-append (refuse-append (refuse-append (refuse-append (refuse-at 1 refl _) (refuse-at 2 refl _))
+    (refuse-at 3 refl _)) (refuse-at 4 refl _)) (refuse-at 5 refl _)) (refuse-at 6 refl _)) (refuse-at 7 refl _)) (refuse-at 8 refl _)
+
+-- Accepted checks passed every test, and so did an accepted build, which has the room too.
+pub check-passed : (x : Input) → accepts (checkSays x) ≡ true → Passed x
+unfolding checkSays
+check-passed x e = passed x (faults-refuse x .none-met _ e)
+
+module _ (x : Input) (r : Rooms) (e : accepts (buildSays x r) ≡ true) where
+  nothing-wrong : faults x ++ at 9 (shortOfBuild x r) ≡ []
+  unfolding buildSays
+  nothing-wrong = refuse-append (faults-refuse x) (refuse-at 9 refl _) .none-met _ e
+
+  pub build-passed : Passed x
+  build-passed = passed x (append-empty (faults x) _ nothing-wrong .0)
+
+  pub build-room : shortOfBuild x r ≡ []
+  build-room = at-empty 9 _ (append-empty (faults x) _ nothing-wrong .1)
+
+  pub build-says : buildSays x r ≡ counts (x .schema) (graph x)
+  unfolding buildSays
+  build-says = ap (λ (fs : List (List ℕ)). firstOf fs (counts (x .schema) (graph x))) nothing-wrong
+
+-- Names are few, so that field labels are below `LOADER`.
+pub names-few : (x : Input) → Passed x → x .schema .names ≤ 16777216
+unfolding badLimit overLimit
+names-few x h = ltb-false _ _ (none-of _ (none-of _ (h .limits) 0) 1)
+
+pub objects-few : (x : Input) → Passed x → objectCount x ≤ 67108864
+unfolding badLimit overLimit
+objects-few x h = ltb-false _ _ (none-of _ (none-of _ (none-of _ (h .limits) 0) 0) 0)
+
+-- The slots and statics of a class.
+module _ (x : Input) (h : Passed x) (c : ℕ) (l : c < classCount (x .schema)) where
+  class-good : badClass (x .schema) c ≡ false
+  unfolding badDumped
+  class-good = none-of _ (h .class c l) 0
+
+  pub slot-label : (k : ℕ) → k < slotTotal (x .schema) c → x .schema .slots .labels ! slotPlace (x .schema) c k < x .schema .names
+  unfolding badClass badSlot
+  slot-label k m = leb-false _ _ (none-of _ (any-false (badSlot (x .schema) c) _ k (none-of _ class-good 6) m) 0)
+
+  pub static-name : (k : ℕ) → k < staticTotal (x .schema) c → x .schema .statics .names ! staticPlace (x .schema) c k < x .schema .names
+  unfolding badClass badStatic
+  static-name k m = leb-false _ _ (none-of _ (any-false (badStatic (x .schema) c) _ k (none-of _ class-good 7) m) 0)
+
+  -- the ranges of a class stand inside their columns
+  pub slots-in : x .schema .classes .slotEnd ! c ≤ length (x .schema .slots .offsets)
+  unfolding badClass
+  slots-in = ltb-false _ _ (none-of _ class-good 3)
+
+  pub statics-in : x .schema .classes .staticEnd ! c ≤ length (x .schema .statics .names)
+  unfolding badClass
+  statics-in = ltb-false _ _ (none-of _ class-good 5)
+
+  pub slots-few : slotTotal (x .schema) c ≤ 268435456
+  unfolding badLimit overLimit
+  slots-few =
+      omega (
+        arith,
+        slots-in,
+        ltb-false 268435456 (length (x .schema .slots .offsets))
+            (none-of _ (none-of _ (none-of _ (h .limits) 0) 2) 0),
+      )
+
+  pub statics-few : staticTotal (x .schema) c ≤ 268435456
+  unfolding badLimit overLimit
+  statics-few =
+      omega (
+        arith,
+        statics-in,
+        ltb-false 268435456 (length (x .schema .statics .names))
+            (none-of _ (none-of _ (none-of _ (h .limits) 0) 2) 1),
+      )
+
+module _ (x : Input) (h : Passed x) where
+  -- No object has id 0, and ids rise.
+  pub no-zero : find (x .objects .ids) 0 ≡ none
+  unfolding badObject
+  no-zero = find-none (x .objects .ids) 0 (λ i l. eqb-false (x .objects .ids ! i) 0 (none-of _ (h .object i l) 0))
+
+  step-up : (i : ℕ) → suc i < objectCount x → x .objects .ids ! i < x .objects .ids ! suc i
+  unfolding badObject
+  step-up i l =
+      leb-false (x .objects .ids ! suc i) (x .objects .ids ! i) (second-fails _ _ (none-of _ (h .object (suc i) l) 1) (lt-ltb 0 (suc i) (omega arith)))
+
+  climb : (i k : ℕ) → i + suc k < objectCount x → x .objects .ids ! i < x .objects .ids ! (i + suc k)
+  climb i zero l = rw (add-one i) (step-up i (omega arith))
+  climb i (suc k) l = rw (add-suc i (suc k)) (omega (arith, climb i k (omega arith), step-up (i + suc k) (omega arith)))
+
+  pub ids-rise : Rises (x .objects .ids)
+  ids-rise i j l m = let e : j ≡ i + suc (j - suc i) = omega arith in rw e (climb i (j - suc i) (omega arith))
+
+  pub id-found : (o : ℕ) → o < objectCount x → find (x .objects .ids) (x .objects .ids ! o) ≡ some o
+  id-found o l = find-at (x .objects .ids) (x .objects .ids ! o) o ids-rise l refl
+
+  -- An instance's class is a class.
+  pub class-in : (o : ℕ) → o < objectCount x → eqb (x .objects .kinds ! o) 0 ≡ true → classOf x o < classCount (x .schema)
+  unfolding badObject
+  class-in o l e = leb-false _ _ (second-fails _ _ (none-of _ (h .object o l) 3) e)
+
+  pub slot-small : (o k : ℕ) → o < objectCount x → k < slotCount x o → x .schema .slots .labels ! slotOf x o k < x .schema .names
+  unfolding slotCount
+  slot-small o k l m = go (eqb (x .objects .kinds ! o) 0) refl m
+    where
+      go : (b : Bool) → eqb (x .objects .kinds ! o) 0 ≡ b → k < cond b (slotTotal (x .schema) (classOf x o)) 0
+          → x .schema .slots .labels ! slotOf x o k < x .schema .names
+      go true e m = slot-label x h (classOf x o) (class-in o l e) k m
+      go false e m = absurd (not-suc-le-zero m)
+
+  pub slotCount-few : (o : ℕ) → o < objectCount x → slotCount x o ≤ 268435456
+  unfolding slotCount
+  slotCount-few o l = go (eqb (x .objects .kinds ! o) 0) refl
+    where
+      go : (b : Bool) → eqb (x .objects .kinds ! o) 0 ≡ b → cond b (slotTotal (x .schema) (classOf x o)) 0 ≤ 268435456
+      go true e = slots-few x h (classOf x o) (class-in o l e)
+      go false e = omega arith
+
+  pub elements-few : (o : ℕ) → o < objectCount x → elementCount x o ≤ 268435456
+  unfolding elementCount badObject
+  elements-few o l = go (eqb (x .objects .kinds ! o) 1) refl
+    where
+      go : (b : Bool) → eqb (x .objects .kinds ! o) 1 ≡ b → cond b (x .objects .lengths ! o) 0 ≤ 268435456
+      go true e = ltb-false _ _ (second-fails _ _ (none-of _ (h .object o l) 4) e)
+      go false e = omega arith
+
+  -- Of two dumped classes found at one object, neither is the earlier: at most one is.
+  pub one-dumped : (o b c : ℕ) → o < objectCount x → b < c → c < classCount (x .schema) → foundAt x o b ≡ true → foundAt x o c ≡ true → ⊥
+  unfolding foundAt badDumped badFind
+  one-dumped o b c l bc cl fb fc =
+      let ec : x .schema .classes .ids ! c ≡ x .objects .ids ! o = eqb-true _ _ (each-of _ fc 1) in
+      let bad : foundBadly x c (find (x .objects .ids) (x .schema .classes .ids ! c)) ≡ false
+      = second-fails _ _ (none-of _ (h .class c cl) 1) (each-of _ fc 0) in
+      let here : foundBadly x c (some o) ≡ false = rw (ec, id-found o l) at bad in
+      false≢true (sym (any-false (foundAt x o) c b (none-of _ here 1) bc) ∙ fb)
+
+  pub one-class : (o c : ℕ) → o < objectCount x → c < classCount (x .schema) → foundAt x o c ≡ true → classesAt x o ≡ c ∷ []
+  unfolding classesAt
+  one-class o c l m t = one-place (foundAt x o) (classCount (x .schema)) c m t (λ i k d. go i k d (foundAt x o i) refl (decLt i c))
+    where
+      go : (i : ℕ) → i < classCount (x .schema) → (i ≡ c → ⊥) → (b : Bool) → foundAt x o i ≡ b → Dec (i < c) → foundAt x o i ≡ false
+      go i k d false e q = e
+      go i k d true e (yes q) = absurd (one-dumped o i c l q m e t)
+      go i k d true e (no q) = absurd (one-dumped o c i l (omega arith) k t e)
+
+  -- A dumped class is found at an object of kind 3 only.
+  pub class-kind : (o c : ℕ) → o < objectCount x → c < classCount (x .schema) → foundAt x o c ≡ true → 3 ≤ x .objects .kinds ! o
+  unfolding foundAt badDumped badFind
+  class-kind o c l m t =
+      let ec : x .schema .classes .ids ! c ≡ x .objects .ids ! o = eqb-true _ _ (each-of _ t 1) in
+      let bad : foundBadly x c (find (x .objects .ids) (x .schema .classes .ids ! c)) ≡ false = second-fails _ _ (none-of _ (h .class c m) 1) (each-of _ t 0) in
+      let here : foundBadly x c (some o) ≡ false = rw (ec, id-found o l) at bad in
+      ltb-false _ _ (none-of _ here 0)
+
+  -- Spans stand inside their columns.
+  part-good : (o : ℕ) → o < objectCount x → x .objects .kinds ! o < 2 → badPart x (x .route) o ≡ false
+  unfolding badSpan
+  part-good o l k = second-fails _ _ (h .span o l) (lt-ltb _ 2 k)
+
+  pub copied-span : (c : Copied) → x .route ≡ copied c → (o : ℕ) → o < objectCount x → x .objects .kinds ! o < 2
+      → c .starts ! o + (slotCount x o + elementCount x o) ≤ length (c .ids .codes)
+  unfolding badPart slotCount elementCount
+  copied-span c e o l k = ltb-false _ _ (rw e at (part-good o l k))
+
+  pub raw-span : (r : Raw) → x .route ≡ raw r → (o : ℕ) → o < objectCount x → x .objects .kinds ! o < 2 → r .starts ! o + r .lengths ! o ≤ length (r .bytes)
+  unfolding badPart
+  raw-span r e o l k = ltb-false _ _ (none-of _ (rw e at (part-good o l k)) 0)
+
+  -- Roots are objects, and the places are within the limit.
+  pub root-in : (i : ℕ) → i < length (x .roots) → x .roots ! i < objectCount x
+  root-in i l = leb-false _ _ (h .root i l)
+
+  pub places-few : placeCount x ≤ 268435456
+  places-few = ltb-false _ _ (h .few-places)
+
+  -- The columns of one table have one length.
+  pub objects-even : (length (x .objects .kinds) ≡ objectCount x) × (length (x .objects .classes) ≡ objectCount x) ×
+      (length (x .objects .lengths) ≡ objectCount x)
+  unfolding badLengths
+  objects-even =
+      let d = none-of _ (none-of _ (h .lengths) 0) in
+      (eqb-true _ _ (not-true _ (d 0)), eqb-true _ _ (not-true _ (d 1)), eqb-true _ _ (not-true _ (d 2)))
+
+  pub slots-even : (length (x .schema .slots .labels) ≡ length (x .schema .slots .offsets)) ×
+      (length (x .schema .slots .weak) ≡ length (x .schema .slots .offsets))
+  unfolding badLengths schemaLengths
+  slots-even = let d = none-of _ (none-of _ (none-of _ (h .lengths) 1) 2) in (eqb-true _ _ (not-true _ (d 0)), eqb-true _ _ (not-true _ (d 1)))
+
+  pub statics-even : (length (x .schema .statics .types) ≡ length (x .schema .statics .names)) ×
+      (length (x .schema .statics .values) ≡ length (x .schema .statics .names))
+  unfolding badLengths schemaLengths
+  statics-even = let d = none-of _ (none-of _ (none-of _ (h .lengths) 1) 3) in (eqb-true _ _ (not-true _ (d 0)), eqb-true _ _ (not-true _ (d 1)))
+
+  pub copied-even : (c : Copied) → x .route ≡ copied c → (length (c .ids .ids) ≡ length (c .ids .places)) × (length (c .starts) ≡ objectCount x)
+  unfolding badLengths routeLengths
+  copied-even c e =
+      let d = rw e at (none-of _ (h .lengths) 2) in
+      (eqb-true _ _ (not-true _ (none-of _ (none-of _ d 0) 0)), eqb-true _ _ (not-true _ (none-of _ (none-of _ d 1) 0)))
+
+  pub raw-even : (r : Raw) → x .route ≡ raw r → (length (r .starts) ≡ objectCount x) × (length (r .lengths) ≡ objectCount x)
+  unfolding badLengths routeLengths
+  raw-even r e = let d = none-of _ (rw e at (none-of _ (h .lengths) 2)) in (eqb-true _ _ (not-true _ (d 0)), eqb-true _ _ (not-true _ (d 1)))

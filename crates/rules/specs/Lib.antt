@@ -1,0 +1,13 @@
+pub mod Types
+pub mod Input
+pub mod Edges
+pub mod Places
+pub mod Labels
+pub mod Account
+pub mod Demand
+pub mod Needs
+pub mod Verdict
+pub mod Parts
+pub mod Questions
+pub mod Built
+pub mod Worked
