@@ -4,13 +4,13 @@ use native.Mathlib.Nat.{not-suc-le-zero}
 use native.Mathlib.Omega.{arith}
 use native.Mathlib.Decide.{decLt}
 use mathlib.Core.Path.{_≡_, refl, sym, ap, _∙_}
-use mathlib.Core.Logic.{_⊎_, inl, inr, ⊎-elim}
-use mathlib.Core.Bool.{Bool, true, false, cond, false≢true, _||_, _&&_}
+use mathlib.Core.Logic.{⊎-elim}
+use mathlib.Core.Bool.{Bool, true, false, cond, false≢true, _||_}
 use mathlib.Core.List.{List, [], _∷_, _++_, map}
 use mathlib.Core.Option.{Option, none, some}
 use lib.Dec.{eqb, ltb}
 use lib.ListN.{length}
-use borrow.Author.Tests.{eqb-true, eqb-false, eq-eqb, ne-eqb, ltb-true, ltb-false, lt-ltb, le-ltb}
+use borrow.Author.Tests.{eqb-true, eqb-false, eq-eqb, ne-eqb, lt-ltb, le-ltb}
 use Rattle.columns.specs.Lists.{_!_, places, find, next, found, lookup, allOf}
 use Rattle.columns.specs.Ranks.{Rises, rank, bisect}
 use Rattle.columns.proofs.Lists.{lt-or-ge, places-at}
@@ -77,28 +77,33 @@ lookup-map f (k ∷ ks) v e = go (eqb k v) refl e (lookup-map f ks v)
     go true t e ih = ap f (eqb-true k v t)
     go false t e ih = ih (rw (found-next (find ks v)) at e)
 
--- Bisection in a list that rises finds what the search of the whole list finds.
+-- In a list that rises a number that does not stand at its rank is missing: it is found at its rank or not at all.
+pub rank-missing : (xs : List ℕ) (x : ℕ) → Rises xs → (rank xs x < length xs → xs ! rank xs x ≡ x → ⊥) → find xs x ≡ none
+rank-missing xs x rise no-at = find-none xs x (λ i l e. ⊎-elim (λ g. omega (arith, rank-below xs x rise i g)) (λ g. from i l e g) (lt-or-ge i (rank xs x)))
+  where
+    from : (i : ℕ) → i < length xs → xs ! i ≡ x → rank xs x ≤ i → ⊥
+    from i l e g =
+        ⊎-elim
+        (λ k. omega (arith, rise (rank xs x) i k l, rank-above xs x rise (rank xs x) (omega arith) (omega arith)))
+        (λ k. let s : rank xs x ≡ i = omega arith in no-at (omega arith) (ap (λ (p : ℕ). xs ! p) s ∙ e))
+        (lt-or-ge (rank xs x) i)
+
+pub find-rank : (xs : List ℕ) (x : ℕ) → Rises xs → find xs x ≡ cond (allOf (ltb (rank xs x) (length xs) ∷ eqb (xs ! rank xs x) x ∷ [])) (some (rank xs x)) none
+unfolding allOf
+find-rank xs x rise =
+    ⊎-elim
+    (λ l. rw (lt-ltb (rank xs x) (length xs) l) (go l (eqb (xs ! rank xs x) x) refl))
+    (λ l. rw (le-ltb (rank xs x) (length xs) l) (rank-missing xs x rise (λ k. absurd (omega arith))))
+    (lt-or-ge (rank xs x) (length xs))
+  where
+    go : rank xs x < length xs → (b : Bool) → eqb (xs ! rank xs x) x ≡ b → find xs x ≡ cond (allOf (b ∷ [])) (some (rank xs x)) none
+    go l true t = find-at xs x (rank xs x) rise l (eqb-true _ _ t)
+    go l false t = rank-missing xs x rise (λ k. eqb-false _ _ t)
+
+-- so bisection finds what the search of the whole list finds
 pub find-bisect : (xs : List ℕ) (v : ℕ) → Rises xs
     → find xs v ≡ cond (allOf (ltb (bisect xs v) (length xs) ∷ eqb (xs ! bisect xs v) v ∷ [])) (some (bisect xs v)) none
-unfolding allOf
-find-bisect xs v rise = rw (bisect-rank xs v rise) (go (ltb r (length xs)) refl (eqb (xs ! r) v) refl)
-  where
-    r : ℕ
-    r = rank xs v
-
-    absent : ((i : ℕ) → i < length xs → xs ! i ≡ v → i ≡ r → ⊥) → find xs v ≡ none
-    absent h = find-none xs v (λ i l e. at-rank i l e (lt-or-ge i r))
-      where
-        at-rank : (i : ℕ) → i < length xs → xs ! i ≡ v → (i < r) ⊎ (r ≤ i) → ⊥
-        at-rank i l e (inl m) = omega (arith, rank-below xs v rise i m)
-        at-rank i l e (inr m) =
-            ⊎-elim (λ (g : r < i). omega (arith, rise r i g l, rank-above xs v rise r (omega arith) (omega arith))) (λ (g : i ≤ r). h i l e (omega arith))
-            (lt-or-ge r i)
-
-    go : (a : Bool) → ltb r (length xs) ≡ a → (b : Bool) → eqb (xs ! r) v ≡ b → find xs v ≡ cond (a && (b && true)) (some r) none
-    go true s true t = find-at xs v r rise (ltb-true _ _ s) (eqb-true _ _ t)
-    go true s false t = absent (λ i l e q. eqb-false _ _ t (ap (λ (j : ℕ). xs ! j) (sym q) ∙ e))
-    go false s b t = absent (λ i l e q. omega (arith, ltb-false r (length xs) s))
+find-bisect xs v rise = rw (bisect-rank xs v rise) (find-rank xs v rise)
 
 -- the row that is found holds the value looked up
 pub lookup-find : (ks vs : List ℕ) (v i : ℕ) → length ks ≡ length vs → find ks v ≡ some i → lookup ks vs v ≡ vs ! i

@@ -2,15 +2,14 @@
 use mathlib.Core.Path.{_≡_, sym, ap, _∙_}
 use mathlib.Core.Logic.{⊎-elim}
 use mathlib.Core.List.{List}
-use mathlib.Core.Option.{none}
 use Prim.Native.Nat.{ℕ, _+_, _≤_, _<_, zero-le}
 use native.Mathlib.Omega.{arith}
 use lib.ListN.{length}
-use Rattle.columns.specs.Lists.{_!_, find}
+use Rattle.columns.specs.Lists.{_!_}
 use Rattle.columns.specs.Ranks.{Rises, rank, Ranked}
 use Rattle.columns.proofs.Lists.{lt-or-ge}
 use Rattle.columns.proofs.Ranks.{rank-within, rank-below, rank-above, bisect-rank, bisect-found}
-use Rattle.columns.proofs.Search.{find-at, find-none}
+use Rattle.columns.proofs.Search.{find-at, rank-missing}
 use Rattle.lookup.specs.declared.Found.the-variants.{At, Missing}
 use Rattle.lookup.specs.Lookup.{lookupOf, Sought, Held}
 
@@ -46,17 +45,6 @@ ranked-at xs x m l e =
       within = omega arith;
       ranked = λ rise. sym (bisect-found xs m rise l) ∙ bisect-rank xs (xs ! m) rise ∙ ap (rank xs) e;
     }
-
--- an id that does not stand at its rank is missing
-pub rank-missing : (xs : List ℕ) (x : ℕ) → Rises xs → (rank xs x < length xs → xs ! rank xs x ≡ x → ⊥) → find xs x ≡ none
-rank-missing xs x rise no-at = find-none xs x (λ i l e. ⊎-elim (λ g. omega (arith, rank-below xs x rise i g)) (λ g. from i l e g) (lt-or-ge i (rank xs x)))
-  where
-    from : (i : ℕ) → i < length xs → xs ! i ≡ x → rank xs x ≤ i → ⊥
-    from i l e g =
-        ⊎-elim
-        (λ k. omega (arith, rise (rank xs x) i k l, rank-above xs x rise (rank xs x) (omega arith) (omega arith)))
-        (λ k. let s : rank xs x ≡ i = omega arith in no-at (omega arith) (ap (λ (p : ℕ). xs ! p) s ∙ e))
-        (lt-or-ge (rank xs x) i)
 
 pub sought-at : {xs : List ℕ} {x k : ℕ} → k < length xs → xs ! k ≡ x → Sought xs x (At k)
 unfolding lookupOf

@@ -1,15 +1,12 @@
 -- What the contracts come to: an answer is the definition's, both lookups agree, and no guess has an outcome of its own. Assumes nothing.
 use mathlib.Core.Path.{_≡_, refl, sym, ap, _∙_}
-use mathlib.Core.Bool.{Bool, true, false, cond}
-use mathlib.Core.List.{List, [], _∷_}
+use mathlib.Core.List.{List}
 use mathlib.Core.Logic.{⊎-elim}
 use mathlib.Core.Option.{Option, none, some}
 use Prim.Native.Nat.{ℕ, _≤_, _<_}
 use native.Mathlib.Omega.{arith}
-use borrow.Author.Tests.{lt-ltb, le-ltb, eqb-true, eqb-false}
-use lib.Dec.{ltb, eqb}
 use lib.ListN.{length}
-use Rattle.columns.specs.Lists.{_!_, allOf, find}
+use Rattle.columns.specs.Lists.{_!_, find}
 use Rattle.columns.specs.Ranks.{Rises, rank, Ranked}
 use Rattle.columns.proofs.Lists.{lt-or-ge}
 use Rattle.columns.proofs.Ranks.{rank-below, rank-above}
@@ -17,20 +14,6 @@ use Rattle.columns.proofs.Search.{find-at}
 use Rattle.lookup.specs.declared.Found.{Found}
 use Rattle.lookup.specs.declared.Found.the-variants.{At, Missing}
 use Rattle.lookup.specs.Lookup.{placed, lookupOf, Sought}
-use Rattle.lookup.proofs.Search.{rank-missing}
-
--- ONE TEST. In a list that rises a number is found at its rank or not at all.
-pub find-rank : (xs : List ℕ) (x : ℕ) → Rises xs → find xs x ≡ cond (allOf (ltb (rank xs x) (length xs) ∷ eqb (xs ! rank xs x) x ∷ [])) (some (rank xs x)) none
-unfolding allOf
-find-rank xs x rise =
-    ⊎-elim
-    (λ l. rw (lt-ltb (rank xs x) (length xs) l) (go l (eqb (xs ! rank xs x) x) refl))
-    (λ l. rw (le-ltb (rank xs x) (length xs) l) (rank-missing xs x rise (λ k. absurd (omega arith))))
-    (lt-or-ge (rank xs x) (length xs))
-  where
-    go : rank xs x < length xs → (b : Bool) → eqb (xs ! rank xs x) x ≡ b → find xs x ≡ cond (allOf (b ∷ [])) (some (rank xs x)) none
-    go l true t = find-at xs x (rank xs x) rise l (eqb-true _ _ t)
-    go l false t = rank-missing xs x rise (λ k. eqb-false _ _ t)
 
 -- AN ANSWER. A place is given exactly where the definition finds it; of a missing id, its rank.
 foundOf : Found → Option ℕ
