@@ -3,9 +3,9 @@ use Prim.Native.Nat.{ℕ, zero, suc, _<_}
 use native.Mathlib.Nat.{not-suc-le-zero}
 use native.Mathlib.Omega.{arith}
 use native.Mathlib.Decide.{decLt}
-use mathlib.Core.Path.{_≡_, refl, sym}
+use mathlib.Core.Path.{_≡_, refl}
 use mathlib.Core.Logic.{⊎-elim}
-use mathlib.Core.Bool.{Bool, true, false, cond, not, _||_}
+use mathlib.Core.Bool.{Bool, true, false, cond, _||_}
 use mathlib.Core.List.{List, [], _∷_, _++_, map}
 use lib.ListN.{length, getD}
 use Rattle.columns.proofs.Lists.{lt-or-ge}
@@ -96,10 +96,6 @@ one-place t (suc n) c l e h = go (decLt c n) (λ m. one-place t n c m e (λ i k 
         let q : n ≡ c = omega arith in
         let z : t n ≡ true = rw q e in
         rw (no-places t n (λ i k. h i (omega arith) (λ d. omega arith)), z, q)
-
-pub not-true : (b : Bool) → not b ≡ false → b ≡ true
-not-true true e = refl
-not-true false e = sym e
 
 -- tests that fail, put together
 pub all-fails : (a b : Bool) → (a ≡ true → b ≡ false) → allOf (a ∷ b ∷ []) ≡ false

@@ -10,11 +10,11 @@ use mathlib.Core.List.{List, [], _∷_, _++_}
 use mathlib.Core.Option.{none, some}
 use lib.Dec.{eqb}
 use lib.ListN.{length}
-use borrow.Author.Tests.{eqb-true, eqb-false, leb-false, ltb-false, lt-ltb}
+use borrow.Author.Tests.{eqb-true, eqb-false, leb-false, ltb-false, lt-ltb, not-false}
 use Rattle.columns.specs.Lists.{_!_, places, find}
 use Rattle.columns.specs.Columns.{accepts}
 use Rattle.columns.specs.Ranks.{Rises}
-use Rattle.columns.proofs.Tests.{none-of, not-true, each-of, second-fails, any-false, append-empty, places-none, one-place}
+use Rattle.columns.proofs.Tests.{none-of, each-of, second-fails, any-false, append-empty, places-none, one-place}
 use Rattle.columns.proofs.Search.{find-none, find-at}
 use Rattle.rules.specs.Input.{Input, Copied, Raw, Route.copied, Route.raw, objectCount, classCount, slotCount, elementCount, slotTotal, slotPlace}
 use Rattle.rules.specs.Input.{staticTotal, staticPlace, classOf, slotOf, foundAt, classesAt}
@@ -269,24 +269,24 @@ module _ (x : Input) (h : Passed x) where
   unfolding badLengths
   objects-even =
       let d = none-of _ (none-of _ (h .lengths) 0) in
-      (eqb-true _ _ (not-true _ (d 0)), eqb-true _ _ (not-true _ (d 1)), eqb-true _ _ (not-true _ (d 2)))
+      (eqb-true _ _ (not-false _ (d 0)), eqb-true _ _ (not-false _ (d 1)), eqb-true _ _ (not-false _ (d 2)))
 
   pub slots-even : (length (x .schema .slots .labels) ≡ length (x .schema .slots .offsets)) ×
       (length (x .schema .slots .weak) ≡ length (x .schema .slots .offsets))
   unfolding badLengths schemaLengths
-  slots-even = let d = none-of _ (none-of _ (none-of _ (h .lengths) 1) 2) in (eqb-true _ _ (not-true _ (d 0)), eqb-true _ _ (not-true _ (d 1)))
+  slots-even = let d = none-of _ (none-of _ (none-of _ (h .lengths) 1) 2) in (eqb-true _ _ (not-false _ (d 0)), eqb-true _ _ (not-false _ (d 1)))
 
   pub statics-even : (length (x .schema .statics .types) ≡ length (x .schema .statics .names)) ×
       (length (x .schema .statics .values) ≡ length (x .schema .statics .names))
   unfolding badLengths schemaLengths
-  statics-even = let d = none-of _ (none-of _ (none-of _ (h .lengths) 1) 3) in (eqb-true _ _ (not-true _ (d 0)), eqb-true _ _ (not-true _ (d 1)))
+  statics-even = let d = none-of _ (none-of _ (none-of _ (h .lengths) 1) 3) in (eqb-true _ _ (not-false _ (d 0)), eqb-true _ _ (not-false _ (d 1)))
 
   pub copied-even : (c : Copied) → x .route ≡ copied c → (length (c .ids .ids) ≡ length (c .ids .places)) × (length (c .starts) ≡ objectCount x)
   unfolding badLengths routeLengths
   copied-even c e =
       let d = rw e at (none-of _ (h .lengths) 2) in
-      (eqb-true _ _ (not-true _ (none-of _ (none-of _ d 0) 0)), eqb-true _ _ (not-true _ (none-of _ (none-of _ d 1) 0)))
+      (eqb-true _ _ (not-false _ (none-of _ (none-of _ d 0) 0)), eqb-true _ _ (not-false _ (none-of _ (none-of _ d 1) 0)))
 
   pub raw-even : (r : Raw) → x .route ≡ raw r → (length (r .starts) ≡ objectCount x) × (length (r .lengths) ≡ objectCount x)
   unfolding badLengths routeLengths
-  raw-even r e = let d = none-of _ (rw e at (none-of _ (h .lengths) 2)) in (eqb-true _ _ (not-true _ (d 0)), eqb-true _ _ (not-true _ (d 1)))
+  raw-even r e = let d = none-of _ (rw e at (none-of _ (h .lengths) 2)) in (eqb-true _ _ (not-false _ (d 0)), eqb-true _ _ (not-false _ (d 1)))

@@ -5,10 +5,10 @@ use mathlib.Core.Path.{_≡_, refl, sym, ap, _∙_}
 use mathlib.Core.Bool.{true, false, false≢true}
 use mathlib.Core.List.{List, [], _∷_, _++_}
 use lib.ListN.{length}
-use borrow.Author.Tests.{eqb-true, ltb-false}
+use borrow.Author.Tests.{eqb-true, ltb-false, not-false}
 use Rattle.columns.specs.Lists.{_!_, places, anyOf}
 use Rattle.columns.specs.Columns.{accepts}
-use Rattle.columns.proofs.Tests.{none-of, not-true, append-empty, places-none}
+use Rattle.columns.proofs.Tests.{none-of, append-empty, places-none}
 use Rattle.store.specs.Blocked.{blocked}
 use Rattle.rules.specs.Input.{Schema, classCount}
 use Rattle.rules.specs.Edges.{Parts}
@@ -55,7 +55,7 @@ handed-passed s p e =
     let one = once-empty _ (at-empty 1 _ (e2 .0)) in
     record {
       lengths = none-of _ one 0;
-      even = sym (eqb-true _ _ (not-true _ (none-of _ (none-of _ one 1) 0)));
+      even = sym (eqb-true _ _ (not-false _ (none-of _ (none-of _ one 1) 0)));
       limits = once-empty _ (at-empty 2 _ (e2 .1));
       class = λ c h. places-none (badClass s) _ c (at-empty 4 _ (e3 .1)) h;
       labels = ltb-false _ _ (once-empty _ (at-empty 8 _ (e4 .1)));

@@ -8,12 +8,12 @@ use mathlib.Core.Bool.{Bool, true, false, cond, false≢true}
 use mathlib.Core.List.{List, [], _∷_}
 use lib.Dec.{eqb, leb, ltb}
 use lib.ListN.{length, length-take, length-drop, List·getD-eq-default}
-use borrow.Author.Tests.{leb-false, eqb-true}
+use borrow.Author.Tests.{leb-false, eqb-true, not-false}
 use Rattle.columns.specs.Lists.{_!_, allOf, anyOf, part}
 use Rattle.columns.specs.Columns.{accepts}
 use Rattle.columns.specs.Ranks.{bisect}
 use Rattle.columns.proofs.Sums.{part-at}
-use Rattle.columns.proofs.Tests.{none-of, not-true}
+use Rattle.columns.proofs.Tests.{none-of}
 use Rattle.index.specs.Copied.{Ids, ESCAPED, whole, escapeBack, readBack}
 use Rattle.rules.specs.Input.{Input, Raw, Route.raw, copiedId, bigEndian, rawId}
 use Rattle.rules.specs.Verdict.{badSize, badLimit}
@@ -80,7 +80,7 @@ size-good x h = none-of _ (h .limits) 1
 -- So in an accepted input, where the size is 4 or 8, it has 64 bits.
 pub raw-64 : (x : Input) → Passed x → (r : Raw) → x .route ≡ raw r → ((i : ℕ) → r .bytes ! i < 256) → (p : ℕ) → rawId r p < 2 ^ 64
 unfolding badSize anyOf
-raw-64 x h r e bytes p = go (eqb (r .size) 4) refl (eqb (r .size) 8) refl (not-true _ (ap badSize (sym e) ∙ size-good x h))
+raw-64 x h r e bytes p = go (eqb (r .size) 4) refl (eqb (r .size) 8) refl (not-false _ (ap badSize (sym e) ∙ size-good x h))
   where
     go : (a : Bool) → eqb (r .size) 4 ≡ a → (b : Bool) → eqb (r .size) 8 ≡ b → anyOf (a ∷ b ∷ []) ≡ true → rawId r p < 2 ^ 64
     go true s b t q = let z : r .size ≡ 4 = eqb-true (r .size) 4 s in let b : 256 ^ r .size

@@ -6,9 +6,9 @@ use mathlib.Core.Bool.{Bool, true, false, cond, not, false≢true}
 use mathlib.Core.List.{List, [], _∷_, map}
 use lib.Dec.{eqb, leb, ltb}
 use lib.ListN.{length}
-use borrow.Author.Tests.{eqb-true, eqb-false, leb-false, ltb-false, lt-ltb, le-ltb, lt-leb, eq-eqb, ne-eqb}
+use borrow.Author.Tests.{eqb-true, eqb-false, leb-false, ltb-false, lt-ltb, le-ltb, lt-leb, eq-eqb, ne-eqb, not-false}
 use Rattle.columns.specs.Lists.{_!_, places, part, allOf, anyOf}
-use Rattle.columns.proofs.Tests.{none-of, second-fails, all-fails, not-true, append-empty, collect-none, collect-empty, map-empty, no-places, places-none}
+use Rattle.columns.proofs.Tests.{none-of, second-fails, all-fails, append-empty, collect-none, collect-empty, map-empty, no-places, places-none}
 use Rattle.rules.specs.Types.{LOADER, ARRAY-ELEMENT, isElement}
 use Rattle.rules.specs.Edges.{Parts, pairLe}
 use Rattle.rules.specs.Labels.{expected}
@@ -78,16 +78,16 @@ module _ (names : ℕ) (p : Parts) where
       let count : length (p .targets) ≡ length (p .labels) = eqb-true _ _ (cond-empty _ _ (t .1)) in
       record {
         some = positive _ some;
-        starts = eqb-true _ 0 (not-true _ (none-of _ first 1));
+        starts = eqb-true _ 0 (not-false _ (none-of _ first 1));
         rises = λ o l. ltb-false _ _ (places-none (below (p .offsets)) (length (p .offsets)) (suc o) (o1 .1) (omega arith));
         ends = eqb-true _ _ (cond-empty _ _ (o2 .1));
-        named = λ o k l n. not-true _ (none-of _ (label o k l n) 0);
+        named = λ o k l n. not-false _ (none-of _ (label o k l n) 0);
         elements = λ o k l n t. ltb-false _ _ (second-fails _ _ (none-of _ (label o k l n) 1) t);
         counted = count;
         targets = λ e l. leb-false _ _ (places-none (noObject m (p .targets)) _ e (t .0) (omega arith));
         weak-from = λ i l. leb-false _ _ (none-of _ (pair i l) 0);
         weak-to = λ i l. leb-false _ _ (none-of _ (pair i l) 1);
-        weak-sorted = λ i l. not-true _ (second-fails _ _ (none-of _ (pair (suc i) l) 2) (lt-ltb 0 (suc i) (omega arith)));
+        weak-sorted = λ i l. not-false _ (second-fails _ _ (none-of _ (pair (suc i) l) 2) (lt-ltb 0 (suc i) (omega arith)));
         roots = λ i l. leb-false _ _ (places-none (badRoot m (p .roots)) _ i (column-empty 5 _ (e5 .1)) l);
       }
 
