@@ -2,6 +2,7 @@ pub mod Lists
 pub mod Tests
 pub mod Sums
 pub mod Every
+pub mod Parts
 pub mod Ranks
 pub mod Search
 pub mod First

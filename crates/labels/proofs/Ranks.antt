@@ -1,0 +1,81 @@
+-- What the steps of the ranking come to: the labels of the first sorted keys are the first of the ranking. Assumes nothing.
+use Prim.Native.Nat.{ℕ, _+_, _-_, _≤_, _<_, min}
+use native.Mathlib.Omega.{arith}
+use mathlib.Core.Path.{_≡_, sym, ap, _∙_}
+use mathlib.Core.Bool.{Bool}
+use mathlib.Core.List.{List, _++_, map}
+use lib.Dec.{leb}
+use lib.ListN.{length, take, drop, length-append, length-take, length-map, length-replicate, List·getD-append}
+use lib.Seq.{take-at}
+use Rattle.columns.specs.Lists.{_!_, count, sort, part}
+use Rattle.columns.specs.Columns.{zeros, cleared, over}
+use Rattle.columns.proofs.Lists.{map-at}
+use Rattle.columns.proofs.Sums.{sum-one, sum-sort}
+use Rattle.columns.proofs.Written.{cleared-all}
+use Rattle.rules.specs.Types.{LOADER}
+use Rattle.rules.specs.Labels.{ranked}
+use Rattle.labels.specs.Fields.{labelAt, uses, keysOf, labelOf, labelsOf, Keyed, firstOf, Few}
+use Rattle.labels.proofs.Uses.{zero-at, uses-few, uses-at}
+use Rattle.labels.proofs.Ranking.{ranked-keys, tab-take, take-min}
+
+pub length-sort : (le : ℕ → ℕ → Bool) (xs : List ℕ) → length (sort le xs) ≡ length xs
+length-sort le xs = sym (sum-one (sort le xs)) ∙ sum-sort (λ a. 1) le xs ∙ sum-one xs
+
+-- counted from zeros
+module _ (names : ℕ) (labels c₀ : List ℕ) {z counts : List ℕ} (cleared-is : z ≡ cleared 0 c₀) (uses-are : counts ≡ uses names z labels) where
+  zeros-are : z ≡ zeros (length c₀)
+  zeros-are = cleared-is ∙ cleared-all c₀
+
+  none : (s : ℕ) → z ! s ≡ 0
+  none s = ap (λ (t : List ℕ). t ! s) zeros-are ∙ zero-at (length c₀) s
+
+  pub counted-few : length labels ≤ 4294967295 → Few counts
+  counted-few short s l = omega (arith, ap (λ (t : List ℕ). t ! s) uses-are, uses-few names z labels s, none s)
+
+  pub counted : names ≤ LOADER → names + 2 ≤ length c₀ → (i : ℕ) → i ≤ names → counts ! i ≡ count (labelAt names i) labels
+  counted few room i l =
+      ap (λ (t : List ℕ). t ! i) uses-are
+      ∙ uses-at names i few l z labels (omega (arith, ap length zeros-are, length-replicate {A = ℕ} (length c₀) 0))
+      ∙ omega (arith, none i)
+
+pub zeroed : (c₀ z : List ℕ) → z ≡ cleared 0 c₀ → z ≡ zeros (length z)
+zeroed c₀ z e =
+    let is : z ≡ zeros (length c₀) = e ∙ cleared-all c₀ in
+    is ∙ ap zeros (sym (ap length is ∙ length-replicate {A = ℕ} (length c₀) 0))
+
+-- the keys that are written
+module _ {names : ℕ} {counts k₀ keys : List ℕ} {used : ℕ} (w : Keyed names counts k₀ used keys) where
+  pub used-within : used ≤ length keys
+  unfolding over
+  used-within = omega (arith, w .used, ap length (w .keys), length-append (keysOf names counts) (drop (length (keysOf names counts)) k₀))
+
+  written : part keys 0 used ≡ keysOf names counts
+  unfolding over
+  written = let z : used - 0 ≡ used = omega arith in rw (z, w .keys) (take-at (keysOf names counts) (drop (length (keysOf names counts)) k₀) used (sym (w .used)))
+
+-- their sorted front
+module _ (names : ℕ) (labels : List ℕ) (few : names ≤ LOADER) (short : length labels ≤ 4294967295) {counts k₀ keys : List ℕ} {used : ℕ} (at : (i : ℕ) → i ≤ names → counts ! i ≡ count (labelAt names i) labels) (w : Keyed names counts k₀ used keys) (ys rest : List ℕ) (sorted : ys ≡ sort leb (part keys 0 used)) where
+  is-sorted : ys ≡ sort leb (keysOf names counts)
+  is-sorted = sorted ∙ ap (sort leb) (written w)
+
+  is-ranked : map labelOf ys ≡ ranked names labels
+  is-ranked = ap (map labelOf) is-sorted ∙ ranked-keys names labels few short counts at
+
+  sorted-size : used ≡ length ys
+  sorted-size = w .used ∙ sym (ap length is-sorted ∙ length-sort leb (keysOf names counts))
+
+  ranked-size : used ≡ length (ranked names labels)
+  ranked-size = sorted-size ∙ sym (length-map ys labelOf) ∙ ap length is-ranked
+
+  pub first-used : (k n : ℕ) → n ≡ min k used → n ≡ length (firstOf k names labels)
+  unfolding firstOf
+  first-used k n e = e ∙ ap (min k) ranked-size ∙ sym (length-take k (ranked names labels))
+
+  pub first-labels : (k n : ℕ) → n ≡ min k used → labelsOf (ys ++ rest) n ≡ firstOf k names labels
+  unfolding firstOf
+  first-labels k n e =
+      tab-take (λ i. labelOf ((ys ++ rest) ! i)) (ranked names labels) n (omega (arith, ranked-size))
+      (λ i l. let m : i < length ys = omega (arith, sorted-size) in
+      ap labelOf (List·getD-append ys rest 0 i m) ∙ sym (map-at labelOf 0 ys i m) ∙ ap (λ (z : List ℕ). z ! i) is-ranked)
+      ∙ ap (λ (m : ℕ). take m (ranked names labels)) (e ∙ ap (min k) ranked-size)
+      ∙ take-min k (ranked names labels)

@@ -1,0 +1,89 @@
+-- `labels::fields::mark_named` meets its contract: the labels and names of the first c classes are marked. Assumes nothing.
+use mathlib.Core.Path.{_≡_, refl, ap, _∙_}
+use mathlib.Core.List.{List}
+use Prim.Native.Nat.{ℕ, _≤_, _-_}
+use native.Mathlib.Omega.{arith}
+use lib.ListN.{length}
+use Rattle.columns.specs.Lists.{_!_}
+use Rattle.labels.specs.Fields.{marks, slotsNamed, staticsNamed, naming, namedBy}
+use Rattle.labels.proofs.Marks.{Marking, marking-none, marking-more, marking-end, named-more}
+use borrow.Author.Needs.{needs}
+use Rattle.labels.proofs.fields.mark_named.Statement.{statement}
+use Rattle.labels.proofs.fields.mark_named.Tie as tie
+
+abbrev Inv-loop : tie.InvT-loop
+Inv-loop classes ss se ts te ls ns ty names table₀ c₀ table c = (c ≤ classes) × Marking names table₀ (namedBy (naming ss se ts te ls ns ty) c) table
+
+abbrev μ-loop : tie.MeasureT-loop
+μ-loop classes ss se ts te ls ns ty names table₀ c₀ table c = classes - c
+
+loop-holds : tie.Need-loop-holds Inv-loop μ-loop
+unfolding namedBy
+loop-holds c = (search needs, marking-none _ _)
+
+-- ranges of class c, and the table's room
+slots : (c : tie.In-loop Inv-loop μ-loop) → let a = c .before .before .before .before .before .before .before .before .before .before .before .before .before .before .args in let k = c .before .loop .c in (a .slot-starts .now ! k ≤ a .slot-ends .now ! k) × (a .slot-ends .now ! k ≤ length (a .slot-labels .now))
+slots c = c .before .before .before .before .before .before .before .before .before .before .before .before .before .before .pre .1 .slots (c .before .loop .c) (c .loop-test .taken)
+
+statics : (c : tie.In-loop Inv-loop μ-loop) → let a = c .before .before .before .before .before .before .before .before .before .before .before .before .before .before .args in let k = c .before .loop .c in (a .static-starts .now ! k ≤ a .static-ends .now ! k) × (a .static-ends .now ! k ≤ length (a .static-names .now))
+statics c = c .before .before .before .before .before .before .before .before .before .before .before .before .before .before .pre .1 .statics (c .before .loop .c) (c .loop-test .taken)
+
+mark-slots-requires : tie.Need-mark-slots-requires Inv-loop μ-loop
+mark-slots-requires c κs =
+    let s = slots (c .before .before .before .before .before) in
+    (omega (arith, s .0, c .before .before .before .index .ensures, c .before .index2 .ensures), omega (arith, s .1, c .before .index2 .ensures), record { few = c .before .before .before .before .before .before .before .before .before .before .before .before .before .before .before .before .before .before .before .pre .0 .few; long = omega (arith, c .before .before .before .before .before .before .before .before .before .before .before .before .before .before .before .before .before .before .before .pre .0 .long, c .before .before .before .before .before .before .loop .inv .1 .same) })
+
+mark-statics-requires : tie.Need-mark-statics-requires Inv-loop μ-loop
+mark-statics-requires c κs =
+    let s = statics (c .before .before .before .before .before .before .before .before .before .before .before .before .before) in (
+      omega (arith, s .0, c .before .before .before .index3 .ensures, c .before .index4 .ensures),
+      omega (arith, s .1, c .before .index4 .ensures),
+      omega (arith, s .1, c .before .index4 .ensures, c .before .before .before .before .before .before .before .before .before .before .before .before .before .before .before .before .before .before .before .before .before .before .before .before .before .before .before .pre .1 .types),
+      record { few = c .before .before .before .before .before .before .before .before .before .before .before .before .before .before .before .before .before .before .before .before .before .before .before .before .before .before .before .pre .0 .few; long = omega (arith, c .before .before .before .before .before .before .before .before .before .before .before .before .before .before .before .before .before .before .before .before .before .before .before .before .before .before .before .pre .0 .long, c .before .before .before .before .before .before .before .before .before .before .before .before .before .before .loop .inv .1 .same) },
+    )
+
+loop-again : tie.Need-loop-again Inv-loop μ-loop
+loop-again c =
+    let a = c .before .before .before .before .before .before .before .before .before .before .before .before .before .before .before .before .before .before .before .before .before .before .before .before .before .before .before .before .before .before .args in
+    let k = c .before .before .before .before .before .before .before .before .before .before .before .before .before .before .before .before .before .loop .c in
+    let s = naming (a .slot-starts .now) (a .slot-ends .now) (a .static-starts .now) (a .static-ends .now) (a .slot-labels .now) (a .static-names .now) (a .static-types .now) in
+    let xs = slotsNamed (s .labels) (s .slotStart ! k) (s .slotEnd ! k - s .slotStart ! k) in
+    let ys = staticsNamed (s .names) (s .types) (s .staticStart ! k) (s .staticEnd ! k - s .staticStart ! k) in
+    let first = rw (c .before .before .before .before .before .before .before .before .before .before .before .before .before .before .index .ensures, c .before .before .before .before .before .before .before .before .before .before .before .before .index2 .ensures) at (c .before .before .before .before .before .before .before .before .before .before .mark-slots .ensures) in
+    let second = rw (c .before .before .before .before .before .before .index3 .ensures, c .before .before .before .before .index4 .ensures) at (c .before .before .mark-statics .ensures) in
+    (search needs, marking-more ys (marking-more xs (c .before .before .before .before .before .before .before .before .before .before .before .before .before .before .before .before .before .loop .inv .1) refl first) (named-more s k) second)
+
+returns : tie.Need-returns Inv-loop μ-loop
+returns c =
+    let a = c .before .before .before .before .before .before .before .before .before .before .before .before .before .before .args in
+    let e : c .before .loop .c ≡ a .classes = omega arith in
+    let s = naming (a .slot-starts .now) (a .slot-ends .now) (a .static-starts .now) (a .static-ends .now) (a .slot-labels .now) (a .static-names .now) (a .static-types .now) in
+    marking-end (namedBy s) (a .classes) (c .before .loop .inv .1) e ∙ ap (λ (t : List ℕ). marks (a .names) t (namedBy s (a .classes))) (c .before .before .before .before .mark .ensures)
+
+pub mark-named-spec : {M : Type 1} → statement M
+mark-named-spec =
+    tie.close
+    (tie.spec
+    Inv-loop
+    μ-loop
+    (λ c κs. search needs)
+    loop-holds
+    (λ c. search needs)
+    (λ c. search needs)
+    (λ c κs. search needs)
+    (λ c. search needs)
+    (λ c. search needs)
+    (λ c κs. search needs)
+    mark-slots-requires
+    (λ c. search needs)
+    (λ c. search needs)
+    (λ c κs. search needs)
+    (λ c. search needs)
+    (λ c. search needs)
+    (λ c κs. search needs)
+    mark-statics-requires
+    (λ c. search needs)
+    (λ c. search needs)
+    loop-again
+    (λ c. search needs)
+    returns)

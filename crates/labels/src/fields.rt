@@ -1,0 +1,158 @@
+// Which fields have codes, and the code table.
+use super::code::slot_of;
+use rules::Label;
+ghost use mathlib.Core.Path.{_≡_};
+ghost use mathlib.Core.List.{_∷_};
+ghost use Prim.Native.Nat.{_+_, _-_, _≤_, _<_};
+ghost use lib.ListN.{length};
+ghost use Rattle.columns.specs.Columns.{over};
+ghost use Rattle.rules.specs.Types.{LOADER};
+ghost use Rattle.rules.specs.Labels.{codeTable};
+ghost use Rattle.labels.specs.Coding.{Room};
+ghost use Rattle.labels.specs.Fields.{labelAt, Named, uncoded, mark, marks, slotsNamed, staticsNamed, naming, namedBy, Ranges, marked};
+
+// A table of n places without codes.
+fn clear_table(table: &mut [u16], n: usize)
+    requires { ⌜ n ≤ length (now table) ⌝ }
+    ensures { λ _. ⌜ now (table .exit) ≡ over (uncoded n) (now (table .entry)) ⌝ }
+{
+    let mut i = 0;
+    while i < n {
+        table[i] = 32767;
+        i += 1;
+    }
+}
+
+// The code table of the fields: the code of each is its place among them. From the last to the first, so that the first place counts.
+pub fn write_table(fields: &[u32], names: usize, table: &mut [u16])
+    requires { ⌜ Room names (now table) × (length (now fields) ≤ 32767) ⌝ }
+    requires { ⌜ Named names (now fields) ⌝ }
+    ensures { λ _. ⌜ now (table .exit) ≡ over (codeTable names (now (fields .entry))) (now (table .entry)) ⌝ }
+{
+    clear_table(table, names + 2);
+    let mut k = fields.len();
+    while 0 < k {
+        k -= 1;
+        table[slot_of(fields[k], names)] = k as u16;
+    }
+}
+
+// 1 at the label's place.
+fn mark(label: u32, names: usize, table: &mut [u16])
+    requires { ⌜ Room names (now table) ⌝ }
+    ensures { λ _. ⌜ now (table .exit) ≡ mark names (now (table .entry)) label ⌝ }
+{
+    table[slot_of(label, names)] = 1;
+}
+
+// The labels of one class's slots; or of a range of edges, where the fields that occur are counted.
+pub fn mark_slots(labels: &[u32], from: usize, to: usize, names: usize, table: &mut [u16])
+    requires { ⌜ (from ≤ to) × (to ≤ length (now labels)) × Room names (now table) ⌝ }
+    ensures { λ _. ⌜ now (table .exit) ≡ marks names (now (table .entry)) (slotsNamed (now (labels .entry)) from (to - from)) ⌝ }
+{
+    let mut i = from;
+    while i < to {
+        mark(labels[i], names, table);
+        i += 1;
+    }
+}
+
+// The names of one class's object statics.
+fn mark_statics(
+    static_names: &[u32],
+    types: &[u8],
+    from: usize,
+    to: usize,
+    names: usize,
+    table: &mut [u16],
+)
+    requires { ⌜ (from ≤ to) × (to ≤ length (now «static_names»)) × (to ≤ length (now types)) × Room names (now table) ⌝ }
+    ensures { λ _. ⌜ now (table .exit) ≡ marks names (now (table .entry)) (staticsNamed (now («static_names» .entry)) (now (types .entry)) from (to - from)) ⌝ }
+{
+    let mut i = from;
+    while i < to {
+        if types[i] == 2 {
+            mark(static_names[i], names, table);
+            i += 1;
+        } else {
+            i += 1;
+        }
+    }
+}
+
+// Marks `LOADER` and every slot label and object static name of the classes.
+pub fn mark_named(
+    classes: usize,
+    slot_starts: &[u32],
+    slot_ends: &[u32],
+    static_starts: &[u32],
+    static_ends: &[u32],
+    slot_labels: &[u32],
+    static_names: &[u32],
+    static_types: &[u8],
+    names: usize,
+    table: &mut [u16],
+)
+    requires { ⌜ Room names (now table) × Ranges (naming (now «slot_starts») (now «slot_ends») (now «static_starts») (now «static_ends») (now «slot_labels») (now «static_names») (now «static_types»)) classes ⌝ }
+    ensures { λ _. ⌜ now (table .exit) ≡ marks names (now (table .entry)) (LOADER ∷ namedBy (naming (now («slot_starts» .entry)) (now («slot_ends» .entry)) (now («static_starts» .entry)) (now («static_ends» .entry)) (now («slot_labels» .entry)) (now («static_names» .entry)) (now («static_types» .entry))) classes) ⌝ }
+{
+    mark(Label::LOADER, names, table);
+    let mut c = 0;
+    while c < classes {
+        let from = columns::index(slot_starts[c]);
+        let to = columns::index(slot_ends[c]);
+        mark_slots(slot_labels, from, to, names, table);
+        let first = columns::index(static_starts[c]);
+        let last = columns::index(static_ends[c]);
+        mark_statics(static_names, static_types, first, last, names, table);
+        c += 1;
+    }
+}
+
+// How many labels are marked.
+pub fn count_marked(table: &[u16], names: usize) -> usize
+    requires { ⌜ Room names (now table) ⌝ }
+    ensures { λ r. ⌜ r ≡ length (marked names (now (table .entry))) ⌝ }
+{
+    let mut k = 0;
+    let mut i = 0;
+    while i <= names {
+        if table[i] == 1 {
+            k += 1;
+            i += 1;
+        } else {
+            i += 1;
+        }
+    }
+    k
+}
+
+// The label at a place of the table.
+pub(crate) fn label_at(at: usize, names: usize) -> u32
+    requires { ⌜ (at ≤ names) × (names ≤ LOADER) ⌝ }
+    ensures { λ r. ⌜ r ≡ labelAt names at ⌝ }
+{
+    if at == names {
+        Label::LOADER
+    } else {
+        at as u32
+    }
+}
+
+// The labels that are marked: names rising, then the loader.
+pub fn write_marked(table: &[u16], names: usize, fields: &mut [u32])
+    requires { ⌜ Room names (now table) × (length (marked names (now table)) ≤ length (now fields)) ⌝ }
+    ensures { λ _. ⌜ now (fields .exit) ≡ over (marked names (now (table .entry))) (now (fields .entry)) ⌝ }
+{
+    let mut k = 0;
+    let mut i = 0;
+    while i <= names {
+        if table[i] == 1 {
+            fields[k] = label_at(i, names);
+            k += 1;
+            i += 1;
+        } else {
+            i += 1;
+        }
+    }
+}
