@@ -1,0 +1,6 @@
+pub mod Append
+pub mod Held
+pub mod Account
+pub mod Object
+pub mod Raw
+pub mod Walk
