@@ -1,0 +1,7 @@
+pub mod Reads
+pub mod Copying
+pub mod Spans
+pub mod Lengths
+pub mod Found
+pub mod Flat
+pub mod Placing

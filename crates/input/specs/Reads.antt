@@ -1,0 +1,82 @@
+-- Inputs of which only the columns that one check reads are given, for the contracts of the checks that read no others. Assumes nothing.
+use Prim.Native.Nat.{ℕ, _+_}
+use mathlib.Core.Path.{_≡_}
+use mathlib.Core.Bool.{Bool, false, not}
+use mathlib.Core.List.{List, [], _∷_}
+use lib.Dec.{eqb, leb, ltb}
+use lib.ListN.{length}
+use Rattle.columns.specs.Lists.{_!_, allOf, anyOf}
+use Rattle.index.specs.Copied.{Ids}
+use Rattle.rules.specs.declared.ReferencePolicy.{ReferencePolicy}
+use Rattle.rules.specs.Input.{Objects, Classes, Slots, Statics, Schema, Copied, Raw, Route, Input}
+
+abbrev pub noSlots : Slots
+noSlots = record { offsets = []; labels = []; weak = [] }
+
+abbrev pub noStatics : Statics
+noStatics = record { names = []; types = []; values = [] }
+
+abbrev pub noPolicy : ReferencePolicy
+noPolicy = record { soft = false; weak = false }
+
+abbrev pub noRoute : Route
+noRoute = Route.raw (record { bytes = []; size = 0; starts = []; lengths = [] })
+
+-- the columns of the object check
+abbrev pub objectColumns : List ℕ → List ℕ → List ℕ → List ℕ → List ℕ → Input
+objectColumns ids kinds classes lengths classIds = record {
+  objects = record { ids = ids; kinds = kinds; classes = classes; lengths = lengths };
+  schema = record {
+    classes = record { ids = classIds; loaders = []; dumped = []; kinds = []; slotStart = []; slotEnd = []; staticStart = []; staticEnd = [] };
+    slots = noSlots;
+    statics = noStatics;
+    names = 0;
+  };
+  roots = [];
+  route = noRoute;
+  policy = noPolicy;
+}
+
+-- the columns of the class check, without those about found objects
+abbrev pub schemaColumns : List ℕ → List ℕ → List ℕ → List ℕ → List ℕ → List ℕ → List ℕ → List ℕ → List ℕ → List ℕ → List ℕ → ℕ → Schema
+schemaColumns dumped kinds slotStart slotEnd staticStart staticEnd offsets labels weak staticNames types names = record {
+  classes = record { ids = []; loaders = []; dumped = dumped; kinds = kinds; slotStart = slotStart; slotEnd = slotEnd; staticStart = staticStart; staticEnd = staticEnd };
+  slots = record { offsets = offsets; labels = labels; weak = weak };
+  statics = record { names = staticNames; types = types; values = [] };
+  names = names;
+}
+
+-- A fault of an object whose forerunner has the id `before`, 0 for the first.
+unfoldable pub objectFault : ℕ → ℕ → ℕ → ℕ → ℕ → ℕ → Bool
+objectFault before id kind class len classes =
+    anyOf
+    (leb id before
+    ∷ ltb 3 kind
+    ∷ allOf (eqb kind 0 ∷ leb classes class ∷ [])
+    ∷ allOf (eqb kind 1 ∷ ltb 268435456 len ∷ [])
+    ∷ [])
+
+-- The faults of a class's own numbers, of one slot where offsets from `low` on are in order, and of one static.
+unfoldable pub rowFault : ℕ → ℕ → ℕ → ℕ → ℕ → ℕ → ℕ → ℕ → Bool
+rowFault dumped kind slotStart slotEnd staticStart staticEnd slots statics =
+    anyOf (ltb 1 dumped ∷ ltb 4 kind ∷ ltb slotEnd slotStart ∷ ltb slots slotEnd ∷ ltb staticEnd staticStart ∷ ltb statics staticEnd ∷ [])
+
+unfoldable pub slotFault : ℕ → ℕ → ℕ → ℕ → ℕ → Bool
+slotFault names label weak offset low = anyOf (leb names label ∷ ltb 1 weak ∷ ltb offset low ∷ [])
+
+unfoldable pub staticFault : ℕ → ℕ → ℕ → Bool
+staticFault names name type = anyOf (leb names name ∷ not (anyOf (eqb type 2 ∷ allOf (leb 4 type ∷ leb type 11 ∷ []) ∷ [])) ∷ [])
+
+abbrev pub staticAt : List ℕ → List ℕ → ℕ → ℕ → ℕ → Bool
+staticAt staticNames types names from k = staticFault names (staticNames ! (from + k)) (types ! (from + k))
+
+-- The columns of each table are of one length.
+pub record Tables (dumped kinds slotStart slotEnd staticStart staticEnd offsets labels weak staticNames types : List ℕ) : Type 0 where
+  pub kinds-long : length kinds ≡ length dumped
+  pub slot-starts-long : length slotStart ≡ length dumped
+  pub slot-ends-long : length slotEnd ≡ length dumped
+  pub static-starts-long : length staticStart ≡ length dumped
+  pub static-ends-long : length staticEnd ≡ length dumped
+  pub labels-long : length labels ≡ length offsets
+  pub weak-long : length weak ≡ length offsets
+  pub types-long : length types ≡ length staticNames
