@@ -1,0 +1,60 @@
+-- What the narrow stages of a build answer and leave: ROOM of the first four buffers, and the end. Assumes nothing.
+use Prim.Native.Nat.{ℕ, _+_}
+use mathlib.Core.Path.{_≡_}
+use mathlib.Core.Bool.{cond}
+use mathlib.Core.List.{List, [], _∷_, _++_}
+use lib.Dec.{ltb}
+use lib.ListN.{length, getD}
+use Rattle.columns.specs.Lists.{_!_}
+use Rattle.columns.specs.Columns.{zeros, cleared, accepts}
+use Rattle.store.specs.Blocked.{blocksOf}
+use Rattle.rules.specs.Account.{noAccount}
+use Rattle.rules.specs.Needs.{Rooms, buffer}
+use Rattle.rules.specs.Verdict.{firstOf, at}
+
+-- the lengths of the columns of buffers 1 to 4
+pub record Early : Type 0 where
+  pub targets : ℕ
+  pub labels : ℕ
+  pub weakFrom : ℕ
+  pub weakTo : ℕ
+  pub roots : ℕ
+  pub bases : ℕ
+  pub short : ℕ
+  pub working : ℕ
+
+abbrev pub early : ℕ → ℕ → ℕ → ℕ → ℕ → ℕ → ℕ → ℕ → Early
+early t l f w r b s k = record { targets = t; labels = l; weakFrom = f; weakTo = w; roots = r; bases = b; short = s; working = k }
+
+abbrev pub earlyOf : Rooms → Early
+earlyOf r = early (r .targets) (r .labels) (r .weakFrom) (r .weakTo) (r .roots) (r .coded .bases) (r .coded .short) (r .working)
+
+-- "ROOM: a buffer is smaller than its need": the short ones of buffers 1 to 4, by the places, weak pairs, roots and offsets that are needed.
+unfoldable pub shortEarly : ℕ → ℕ → ℕ → ℕ → Early → List ℕ
+shortEarly places weak roots offsets e =
+    buffer 1 (ltb (e .targets) places ∷ ltb (e .labels) places ∷ [])
+    ++ (buffer 2 (ltb (e .weakFrom) weak ∷ ltb (e .weakTo) weak ∷ [])
+    ++ (buffer 3 (ltb (e .roots) roots ∷ [])
+    ++ buffer 4 (ltb (e .bases) (blocksOf offsets) ∷ ltb (e .short) offsets ∷ ltb (e .working) offsets ∷ [])))
+
+unfoldable pub firstShort : ℕ → ℕ → ℕ → ℕ → Early → ℕ
+firstShort places weak roots offsets e = getD (shortEarly places weak roots offsets e) 0 0
+
+-- The answer before the edges, from that of the checks; acceptance has the weak pairs and the roots.
+unfoldable pub roomSays : List ℕ → ℕ → ℕ → ℕ → Early → List ℕ
+roomSays checked weak roots offsets e =
+    cond (accepts checked) (firstOf (at 9 (shortEarly (checked ! 1) weak roots offsets e)) (0 ∷ 0 ∷ weak ∷ roots ∷ 0 ∷ 0 ∷ 0 ∷ 0 ∷ [])) checked
+
+-- how much of a column an answer keeps, by the place of its length among the values
+unfoldable pub kept : ℕ → List ℕ → ℕ
+kept i says = cond (accepts says) (says ! i) 0
+
+-- "After acceptance the unused end of every output column and all work space is zero; after any refusal of a build everything lent for writing is zero."
+pub record Settled (says ts ls fs ws rs wk : List ℕ) (a : List (List ℕ)) (ts′ ls′ fs′ ws′ rs′ wk′ : List ℕ) (a′ : List (List ℕ)) : Type 0 where
+  pub targets : ts′ ≡ cleared (kept 1 says) ts
+  pub labels : ls′ ≡ cleared 0 ls
+  pub weak-from : fs′ ≡ cleared (kept 2 says) fs
+  pub weak-to : ws′ ≡ cleared (kept 2 says) ws
+  pub roots : rs′ ≡ cleared (kept 3 says) rs
+  pub working : wk′ ≡ cleared 0 wk
+  pub account : a′ ≡ cond (accepts says) a noAccount
