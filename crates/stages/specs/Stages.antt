@@ -1,16 +1,20 @@
 -- What the narrow stages of a build answer and leave: ROOM of the first four buffers, and the end. Assumes nothing.
 use Prim.Native.Nat.{ℕ, _+_}
 use mathlib.Core.Path.{_≡_}
-use mathlib.Core.Bool.{cond}
+use mathlib.Core.Bool.{true, cond}
 use mathlib.Core.List.{List, [], _∷_, _++_}
 use lib.Dec.{ltb}
 use lib.ListN.{length, getD}
 use Rattle.columns.specs.Lists.{_!_}
-use Rattle.columns.specs.Columns.{zeros, cleared, accepts}
+use Rattle.columns.specs.Columns.{over, cleared, accepts}
 use Rattle.store.specs.Blocked.{blocksOf}
-use Rattle.rules.specs.Account.{noAccount}
-use Rattle.rules.specs.Needs.{Rooms, buffer}
-use Rattle.rules.specs.Verdict.{firstOf, at}
+use Rattle.rules.specs.Input.{Input}
+use Rattle.rules.specs.Edges.{Parts, graph}
+use Rattle.rules.specs.Places.{placeCount}
+use Rattle.rules.specs.Account.{account, noAccount}
+use Rattle.rules.specs.Needs.{Lent, Rooms, buffer, needWeak, needRoots, needOffsets}
+use Rattle.rules.specs.Verdict.{firstOf, at, faults}
+use Rattle.rules.specs.Built.{CodedLeft, BuildLeft}
 
 -- the lengths of the columns of buffers 1 to 4
 pub record Early : Type 0 where
@@ -45,6 +49,19 @@ unfoldable pub roomSays : List ℕ → ℕ → ℕ → ℕ → Early → List �
 roomSays checked weak roots offsets e =
     cond (accepts checked) (firstOf (at 9 (shortEarly (checked ! 1) weak roots offsets e)) (0 ∷ 0 ∷ weak ∷ roots ∷ 0 ∷ 0 ∷ 0 ∷ 0 ∷ [])) checked
 
+-- The edges laid, nothing coded yet: the numbers of plain columns, unless the answer before refuses.
+abbrev pub plain : Parts → List ℕ
+plain p = 0 ∷ length (p .targets) ∷ length (p .weakFrom) ∷ length (p .roots) ∷ 0 ∷ 0 ∷ 0 ∷ p .dangling ∷ []
+
+unfoldable pub edgesSays : List ℕ → Parts → List ℕ
+edgesSays before p = cond (accepts before) (plain p) before
+
+-- What the first half of a build answers: refusals 1 to 8, then ROOM 1 to 4.
+unfoldable pub edgeSays : Input → Early → List ℕ
+edgeSays x e =
+    let p = graph x in
+    firstOf (faults x ++ at 9 (shortEarly (placeCount x) (needWeak x) (needRoots x) (needOffsets p) e)) (plain p)
+
 -- how much of a column an answer keeps, by the place of its length among the values
 unfoldable pub kept : ℕ → List ℕ → ℕ
 kept i says = cond (accepts says) (says ! i) 0
@@ -58,3 +75,31 @@ pub record Settled (says ts ls fs ws rs wk : List ℕ) (a : List (List ℕ)) (ts
   pub roots : rs′ ≡ cleared (kept 3 says) rs
   pub working : wk′ ≡ cleared 0 wk
   pub account : a′ ≡ cond (accepts says) a noAccount
+
+-- all that a build leaves, in the order of the columns
+abbrev pub leftOf : List ℕ → List ℕ → List ℕ → List ℕ → List ℕ → List ℕ → List ℕ → CodedLeft → List (List ℕ) → BuildLeft
+leftOf says ts ls fs ws rs wk coded a = record {
+  says = says;
+  targets = ts;
+  labels = ls;
+  weakFrom = fs;
+  weakTo = ws;
+  roots = rs;
+  working = wk;
+  coded = coded;
+  account = a;
+}
+
+-- the rooms that columns of these lengths are
+abbrev pub roomsOf : ℕ → ℕ → ℕ → ℕ → ℕ → ℕ → Lent → Rooms
+roomsOf ts ls fs ws rs wk l = record { targets = ts; labels = ls; weakFrom = fs; weakTo = ws; roots = rs; working = wk; coded = l }
+
+-- What the first half leaves where it accepts: the plain columns of the graph, over the fronts of the columns lent, and the account.
+pub record Laid (x : Input) (says ts₀ ls₀ fs₀ ws₀ rs₀ wk₀ ts ls fs ws rs wk : List ℕ) (a : List (List ℕ)) : Type 0 where
+  pub targets : accepts says ≡ true → ts ≡ over (graph x .targets) ts₀
+  pub labels : accepts says ≡ true → ls ≡ over (graph x .labels) ls₀
+  pub weak-from : accepts says ≡ true → fs ≡ over (graph x .weakFrom) fs₀
+  pub weak-to : accepts says ≡ true → ws ≡ over (graph x .weakTo) ws₀
+  pub roots : accepts says ≡ true → rs ≡ over (graph x .roots) rs₀
+  pub offsets : accepts says ≡ true → wk ≡ over (graph x .offsets) wk₀
+  pub account : accepts says ≡ true → a ≡ account x
