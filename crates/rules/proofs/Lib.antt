@@ -16,3 +16,5 @@ pub mod Used
 pub mod Handed
 pub mod Bounds
 pub mod First
+pub mod Runs
+pub mod Cells
