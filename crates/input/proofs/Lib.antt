@@ -1,11 +1,6 @@
 pub mod Laws
-pub mod Either
 pub mod Faults
 pub mod Walking
 pub mod Parted
 pub mod Even
 pub mod Marks
-pub mod Narrow
-pub mod Chain
-pub mod Placed
-pub mod Counting

@@ -3,5 +3,3 @@ pub mod Copying
 pub mod Spans
 pub mod Lengths
 pub mod Found
-pub mod Flat
-pub mod Placing

@@ -40,10 +40,10 @@ fn row_fault(
     false
 }
 
-fn slot_fault(names: u64, label: u32, weak: u8, offset: u64, low: u64) -> bool
+fn slot_fault(names: usize, label: u32, weak: u8, offset: u64, low: u64) -> bool
     ensures { λ r. ⌜ r ≡ slotFault names label weak offset low ⌝ }
 {
-    if names <= columns::wide(label) {
+    if names <= columns::index(label) {
         return true;
     }
     if 1 < weak {
@@ -55,10 +55,10 @@ fn slot_fault(names: u64, label: u32, weak: u8, offset: u64, low: u64) -> bool
     false
 }
 
-fn static_fault(names: u64, name: u32, kind: u8) -> bool
+fn static_fault(names: usize, name: u32, kind: u8) -> bool
     ensures { λ r. ⌜ r ≡ staticFault names name kind ⌝ }
 {
-    if names <= columns::wide(name) {
+    if names <= columns::index(name) {
         return true;
     }
     if kind == 2 {
@@ -77,7 +77,7 @@ fn static_fault(names: u64, name: u32, kind: u8) -> bool
 fn statics_fault(
     static_names: &[u32],
     static_types: &[u8],
-    names: u64,
+    names: usize,
     from: usize,
     to: usize,
 ) -> bool
@@ -107,7 +107,7 @@ pub fn first_class(
     slot_weak: &[u8],
     static_names: &[u32],
     static_types: &[u8],
-    names: u64,
+    names: usize,
 ) -> usize
     requires { ⌜ Tables (now dumped) (now kinds) (now «slot_starts») (now «slot_ends») (now «static_starts») (now «static_ends») (now «slot_offsets») (now «slot_labels») (now «slot_weak») (now «static_names») (now «static_types») ⌝ }
     ensures { λ r. ⌜ r ≡ firstPlace (badClass (schemaColumns (now (dumped .entry)) (now (kinds .entry)) (now («slot_starts» .entry)) (now («slot_ends» .entry)) (now («static_starts» .entry)) (now («static_ends» .entry)) (now («slot_offsets» .entry)) (now («slot_labels» .entry)) (now («slot_weak» .entry)) (now («static_names» .entry)) (now («static_types» .entry)) names)) (length (now (dumped .entry))) ⌝ }

@@ -10,7 +10,7 @@ ghost use Rattle.input.specs.Found.{placeFor, markFault, marking, dumped
 use lookup::Found;
 
 // The object at which a class is found if it is dumped, or the number of objects.
-pub(crate) fn place_for(ids: &[u64], id: u64, dumped: u8) -> usize
+pub fn place_for(ids: &[u64], id: u64, dumped: u8) -> usize
     requires { ⌜ Rises (now ids) ⌝ }
     ensures { λ r. ⌜ r ≡ placeFor (now (ids .entry)) id dumped ⌝ }
 {

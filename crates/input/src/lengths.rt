@@ -5,7 +5,7 @@ ghost use lib.ListN.{length};
 ghost use Rattle.rules.specs.Verdict.{differs, schemaLengths, badSize};
 ghost use Rattle.input.specs.Lengths.{schemaOf, limits, sizeOnly};
 
-pub(crate) fn differ(n: usize, a: usize) -> bool
+pub fn differ(n: usize, a: usize) -> bool
     ensures { λ r. ⌜ r ≡ differs n (a ∷ []) ⌝ }
 {
     if a == n {
@@ -14,7 +14,7 @@ pub(crate) fn differ(n: usize, a: usize) -> bool
     true
 }
 
-pub(crate) fn differ2(n: usize, a: usize, b: usize) -> bool
+pub fn differ2(n: usize, a: usize, b: usize) -> bool
     ensures { λ r. ⌜ r ≡ differs n (a ∷ b ∷ []) ⌝ }
 {
     if a == n {
@@ -23,7 +23,7 @@ pub(crate) fn differ2(n: usize, a: usize, b: usize) -> bool
     true
 }
 
-pub(crate) fn differ3(n: usize, a: usize, b: usize, c: usize) -> bool
+pub fn differ3(n: usize, a: usize, b: usize, c: usize) -> bool
     ensures { λ r. ⌜ r ≡ differs n (a ∷ b ∷ c ∷ []) ⌝ }
 {
     if a == n {
@@ -83,7 +83,13 @@ pub fn schema_lengths(
 }
 
 // Whether the objects, classes, names, slots or statics are over the limit.
-pub fn over_limit(objects: usize, classes: usize, names: u64, slots: usize, statics: usize) -> bool
+pub fn over_limit(
+    objects: usize,
+    classes: usize,
+    names: usize,
+    slots: usize,
+    statics: usize,
+) -> bool
     ensures { λ r. ⌜ r ≡ limits objects classes names slots statics ⌝ }
 {
     if 67108864 < objects {
@@ -104,7 +110,7 @@ pub fn over_limit(objects: usize, classes: usize, names: u64, slots: usize, stat
     false
 }
 
-pub fn bad_size(size: u64) -> bool
+pub fn bad_size(size: usize) -> bool
     ensures { λ r. ⌜ r ≡ badSize (sizeOnly size) ⌝ }
 {
     if size == 4 {

@@ -1,10 +1,7 @@
-// The input checks of document 01: refusals 1 to 8 for both routes, and those of `from_parts`.
-pub mod bodies;
-pub mod checks;
+// The input checks of document 01, one by one; the crate `checks` puts them together.
 pub mod classes;
 pub mod copied;
 pub mod found;
 pub mod lengths;
 pub mod objects;
-pub mod places;
 pub mod spans;

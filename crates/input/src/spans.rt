@@ -7,7 +7,7 @@ ghost use Rattle.rules.specs.Verdict.{badSpan};
 ghost use Rattle.input.specs.Spans.{slotsOf, partOf, copiedSpanFault, rawSpanFault, copiedSpans, rawSpans};
 
 // How many slots an object's class has, 0 for what is no instance.
-pub(crate) fn slots_of(kind: u8, class: u32, slot_starts: &[u32], slot_ends: &[u32]) -> u32
+pub fn slots_of(kind: u8, class: u32, slot_starts: &[u32], slot_ends: &[u32]) -> u32
     requires { ⌜ length (now «slot_ends») ≡ length (now «slot_starts») ⌝ }
     ensures { λ r. ⌜ r ≡ slotsOf kind class (now («slot_starts» .entry)) (now («slot_ends» .entry)) ⌝ }
 {
@@ -25,7 +25,7 @@ pub(crate) fn slots_of(kind: u8, class: u32, slot_starts: &[u32], slot_ends: &[u
 }
 
 // The length of an object's part of the codes: its slots or its elements.
-pub(crate) fn part_of(kind: u8, class: u32, len: u32, slot_starts: &[u32], slot_ends: &[u32]) -> u32
+pub fn part_of(kind: u8, class: u32, len: u32, slot_starts: &[u32], slot_ends: &[u32]) -> u32
     requires { ⌜ length (now «slot_ends») ≡ length (now «slot_starts») ⌝ }
     ensures { λ r. ⌜ r ≡ partOf kind class len (now («slot_starts» .entry)) (now («slot_ends» .entry)) ⌝ }
 {
@@ -75,7 +75,7 @@ pub fn first_copied_span(
 }
 
 // The end of a part is not summed, as it may pass 64 bits.
-fn raw_fault(kind: u8, len: u32, start: u64, body: u32, bytes: usize, size: u64) -> bool
+fn raw_fault(kind: u8, len: u32, start: u64, body: u32, bytes: usize, size: usize) -> bool
     requires { ⌜ size ≤ 8 ⌝ }
     ensures { λ r. ⌜ r ≡ rawSpanFault kind len start body bytes size ⌝ }
 {
@@ -91,7 +91,7 @@ fn raw_fault(kind: u8, len: u32, start: u64, body: u32, bytes: usize, size: u64)
     if kind == 0 {
         return false;
     }
-    if columns::wide(body) == columns::wide(len) * size {
+    if columns::index(body) == columns::index(len) * size {
         return false;
     }
     true
@@ -104,7 +104,7 @@ pub fn first_raw_span(
     starts: &[u64],
     bodies: &[u32],
     bytes: &[u8],
-    size: u64,
+    size: usize,
 ) -> usize
     requires { ⌜ length (now lengths) ≡ length (now kinds) ⌝ }
     requires { ⌜ length (now starts) ≡ length (now kinds) ⌝ }

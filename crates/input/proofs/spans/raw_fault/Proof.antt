@@ -48,7 +48,7 @@ returns-5 c =
     let part : a .kind < 2 = omega arith in
     let within : a .start + a .body ≤ a .bytes = omega arith in
     let array : a .kind ≡ 1 = omega arith in
-    let same : a .body ≡ a .len * a .size = sym (c .before .before .wide2 .ensures) ∙ c .if5 .taken ∙ ap (λ (n : ℕ). n * a .size) (c .before .wide3 .ensures) in
+    let same : a .body ≡ a .len * a .size = sym (c .before .before .index .ensures) ∙ c .if5 .taken ∙ ap (λ (n : ℕ). n * a .size) (c .before .index2 .ensures) in
     simp (lt-ltb _ _ part, le-ltb _ _ within, eq-eqb _ _ array, eq-eqb _ _ same)
 
 returns-6 : tie.Need-returns-6
@@ -58,13 +58,13 @@ returns-6 c =
     let part : a .kind < 2 = omega arith in
     let within : a .start + a .body ≤ a .bytes = omega arith in
     let array : a .kind ≡ 1 = omega arith in
-    let other : a .body ≡ a .len * a .size → ⊥ = λ e. c .if5 .left (c .before .before .wide2 .ensures ∙ e ∙ sym (ap (λ (n : ℕ). n * a .size) (c .before .wide3 .ensures))) in
+    let other : a .body ≡ a .len * a .size → ⊥ = λ e. c .if5 .left (c .before .before .index .ensures ∙ e ∙ sym (ap (λ (n : ℕ). n * a .size) (c .before .index2 .ensures))) in
     simp (lt-ltb _ _ part, le-ltb _ _ within, eq-eqb _ _ array, ne-eqb _ _ other)
 
 mul-if5 : tie.Need-mul-if5
 mul-if5 c =
-    let len : c .wide3 .result ≤ 4294967295 = omega arith in
-    let l = product-fits (c .wide3 .result) (c .before .before .before .before .before .before .before .args .size) len (c .before .before .before .before .before .before .before .pre) in
+    let len : c .index2 .result ≤ 4294967295 = omega arith in
+    let l = product-fits (c .index2 .result) (c .before .before .before .before .before .before .before .args .size) len (c .before .before .before .before .before .before .before .pre) in
     omega (arith, l)
 
 pub raw-fault-spec : {M : Type 1} → statement M

@@ -1,0 +1,5 @@
+pub mod Either
+pub mod Narrow
+pub mod Chain
+pub mod Sound
+pub mod Join
