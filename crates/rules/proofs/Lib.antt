@@ -16,5 +16,3 @@ pub mod Used
 pub mod Handed
 pub mod Bounds
 pub mod First
-pub mod Runs
-pub mod Cells
