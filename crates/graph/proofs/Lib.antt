@@ -3,7 +3,4 @@ pub mod Appending
 pub mod Reading
 pub mod Pairs
 pub mod Tallies
-pub mod Whole
-pub mod Bridge
 pub mod Bytes
-pub mod Walks

@@ -3,4 +3,3 @@ pub mod Held
 pub mod Account
 pub mod Object
 pub mod Raw
-pub mod Walk

@@ -33,7 +33,7 @@ fn counted(
 }
 
 // The account lent, after the four parts of an object.
-pub(crate) fn tally(account: &mut [[u64; 3]; 4], s0: Pass, s1: Pass, s2: Pass, s3: Pass, s4: Pass)
+pub fn tally(account: &mut [[u64; 3]; 4], s0: Pass, s1: Pass, s2: Pass, s3: Pass, s4: Pass)
     requires { ⌜ AccountIn (now account) s0 × Grows s0 s1 × Grows s1 s2 × Grows s2 s3 × Grows s3 s4 ⌝ }
     ensures { λ _. ⌜ now (account .exit) ≡ accountAfter (now (account .entry)) s0 s1 s2 s3 s4 ⌝ }
 {

@@ -16,7 +16,7 @@ pub const STATIC: usize = 2;
 
 pub const LOADER: usize = 3;
 
-pub(crate) fn narrow(x: usize) -> u32
+pub fn narrow(x: usize) -> u32
     requires { ⌜ x < 2 ^ 32 ⌝ }
     ensures { λ r. ⌜ r ≡ x ⌝ }
 {
@@ -25,7 +25,7 @@ pub(crate) fn narrow(x: usize) -> u32
 
 // "Id 0 gives nothing. Found and kept: an edge with the slot's label. Found, not kept: a weak pair. Not found: dangling, kept or not." But "a missing
 // loader is not". The guess says where the search starts, and nothing else.
-pub(crate) fn append(
+pub fn append(
     s: Pass,
     ids: &[u64],
     kind: usize,
@@ -72,7 +72,7 @@ fn is_kept(weak: u8, keeps: bool) -> bool
 }
 
 // The slot at a place of the slot columns.
-pub(crate) fn append_slot(
+pub fn append_slot(
     s: Pass,
     ids: &[u64],
     slot_labels: &[u32],
@@ -105,7 +105,7 @@ pub(crate) fn append_slot(
 }
 
 // Element k of an array.
-pub(crate) fn append_element(
+pub fn append_element(
     s: Pass,
     ids: &[u64],
     k: usize,

@@ -82,7 +82,7 @@ fn statics(
 }
 
 // The statics of the class that is found at an object: `mark` is the class and one, 0 for none.
-pub(crate) fn found_statics(
+pub fn found_statics(
     s: Pass,
     ids: &[u64],
     static_start: &[u32],
@@ -121,7 +121,7 @@ pub(crate) fn found_statics(
 }
 
 // Its loader: "a missing static is dangling; a missing loader is not."
-pub(crate) fn found_loader(
+pub fn found_loader(
     s: Pass,
     ids: &[u64],
     loaders: &[u64],

@@ -11,7 +11,13 @@ ghost use Rattle.graph.specs.Append.{Room, Appended};
 ghost use Rattle.graph.specs.Held.{copiedSlot, copiedElement, SlotsIn, copiedSlots, copiedElements};
 
 // The id at a place; 0 where nothing reads back, which no accepted input meets.
-fn id_held(codes: &[u32], escape_places: &[u64], escape_ids: &[u64], base: u64, place: usize) -> u64
+pub fn id_held(
+    codes: &[u32],
+    escape_places: &[u64],
+    escape_ids: &[u64],
+    base: u64,
+    place: usize,
+) -> u64
     ensures { λ r. ⌜ r ≡ copiedId (idsOf (now (codes .entry)) (now («escape_places» .entry)) (now («escape_ids» .entry)) base) place ⌝ }
 {
     match index::id_at(codes, escape_places, escape_ids, base, place) {
@@ -96,7 +102,7 @@ fn elements(
 }
 
 // The slots of an object, none unless it is an instance: "class is read for instances only".
-pub(crate) fn object_slots(
+pub fn object_slots(
     s: Pass,
     ids: &[u64],
     codes: &[u32],
@@ -148,7 +154,7 @@ pub(crate) fn object_slots(
 }
 
 // The elements of an object, none unless it is an array of objects.
-pub(crate) fn object_elements(
+pub fn object_elements(
     s: Pass,
     ids: &[u64],
     codes: &[u32],

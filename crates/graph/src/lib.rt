@@ -1,13 +1,11 @@
 // The passes that turn an object's references into edges, weak targets and missing counts. "Work is done in passes over object ranges; each pass
 // hands its weak and missing numbers to the next pass."
-mod account;
+pub mod account;
 pub mod append;
-mod class;
-mod copied;
-mod object;
-mod raw;
-mod step;
-mod weak;
+pub mod class;
+pub mod copied;
+pub mod raw;
+pub mod weak;
 
 ghost use mathlib.Core.Path.{_≡_};
 ghost use Prim.Native.Nat.{_+_, _^_, _<_};

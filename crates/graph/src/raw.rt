@@ -24,7 +24,7 @@ fn spot_of(offset: u32) -> usize
 }
 
 // The number that the bytes from `at` on write, highest byte first.
-fn id_at_bytes(bytes: &[u8], at: usize, size: usize) -> u64
+pub fn id_at_bytes(bytes: &[u8], at: usize, size: usize) -> u64
     requires { ⌜ (at + size ≤ length (now bytes)) × (size ≤ 8) ⌝ }
     ensures { λ r. ⌜ r ≡ bigEndian 0 (part (now (bytes .entry)) at (at + size)) ⌝ }
 {
@@ -117,7 +117,7 @@ fn elements(
 }
 
 // The slots of an object, none unless it is an instance.
-pub(crate) fn object_slots(
+pub fn object_slots(
     s: Pass,
     ids: &[u64],
     bytes: &[u8],
@@ -171,7 +171,7 @@ pub(crate) fn object_slots(
 }
 
 // The elements of an object, none unless it is an array of objects.
-pub(crate) fn object_elements(
+pub fn object_elements(
     s: Pass,
     ids: &[u64],
     bytes: &[u8],

@@ -1,0 +1,5 @@
+pub mod Distinct
+pub mod Marking
+pub mod Layers
+pub mod Capped
+pub mod Uncoded

@@ -1,0 +1,4 @@
+pub mod Whole
+pub mod Walks
+pub mod Bridge
+pub mod Steps
