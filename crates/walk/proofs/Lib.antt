@@ -2,3 +2,9 @@ pub mod Whole
 pub mod Walks
 pub mod Bridge
 pub mod Steps
+pub mod Accepted
+pub mod Runs
+pub mod Parted
+pub mod Comes
+pub mod Counted
+pub mod Stages

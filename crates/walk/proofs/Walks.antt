@@ -54,7 +54,7 @@ walk-none p = record {
 }
 
 -- as many numbers as targets
-from-length : (ids : List ℕ) (p : ℕ → Parts) (first n : ℕ) → length (fromTo ids p first n) ≡ length (weakTo ids p n)
+pub from-length : (ids : List ℕ) (p : ℕ → Parts) (first n : ℕ) → length (fromTo ids p first n) ≡ length (weakTo ids p n)
 unfolding fromTo weakTo
 from-length ids p first zero = refl
 from-length ids p first (suc n) =

@@ -2,4 +2,5 @@
 // pass hands its weak and missing numbers to the next pass, and the cuts don't show in the graph."
 mod object;
 pub mod range;
+pub mod stage;
 mod step;

@@ -1,0 +1,181 @@
+// The edge stage of a build: one pass over all objects appends the edges and the weak pairs, writes the offsets over the marks, and counts.
+use super::range;
+use graph::Pass;
+ghost use mathlib.Core.Path.{_≡_};
+ghost use mathlib.Core.Bool.{true};
+ghost use lib.ListN.{length};
+ghost use Rattle.columns.specs.Columns.{accepts};
+ghost use Rattle.rules.specs.Types.{builtSays};
+ghost use Rattle.walk.specs.Tables.{copiedInput, rawInput};
+ghost use Rattle.walk.specs.Stage.{Handed, Edged, withPass};
+
+// The answer so far with what the pass came to: a refusal stands.
+fn with_pass(v: rules::Built, q: Pass) -> rules::Built
+    ensures { λ r. ⌜ r ≡ withPass v q ⌝ }
+{
+    match v {
+        rules::Built::Done(c) => rules::Built::Done(rules::Counts {
+            edges: q.edges,
+            weak: q.weak,
+            roots: c.roots,
+            long: c.long,
+            fields: c.fields,
+            escapes: c.escapes,
+            dangling: q.missing,
+        }),
+        rules::Built::Refused(e) => rules::Built::Refused(e),
+    }
+}
+
+// By the copied route. Handed a refusal it does nothing. The class ids, the dumped flags and the roots are not read: they belong to the input.
+pub fn edges_copied(
+    v: rules::Built,
+    ids: &[u64],
+    kinds: &[u8],
+    classes: &[u32],
+    lengths: &[u32],
+    class_ids: &[u64],
+    loaders: &[u64],
+    dumped: &[u8],
+    class_kinds: &[u8],
+    slot_start: &[u32],
+    slot_end: &[u32],
+    static_start: &[u32],
+    static_end: &[u32],
+    slot_offsets: &[u32],
+    slot_labels: &[u32],
+    slot_weak: &[u8],
+    names: &[u32],
+    types: &[u8],
+    values: &[u64],
+    name_count: u64,
+    codes: &[u32],
+    escape_places: &[u64],
+    escape_ids: &[u64],
+    base: u64,
+    starts: &[u32],
+    roots: &[u32],
+    policy: rules::ReferencePolicy,
+    working: &mut [u64],
+    targets: &mut [u32],
+    labels: &mut [u32],
+    weak_from: &mut [u32],
+    weak_to: &mut [u32],
+    account: &mut [[u64; 3]; 4],
+) -> rules::Built
+    requires { ⌜ (accepts (builtSays v) ≡ true → Handed (copiedInput (now ids) (now kinds) (now classes) (now lengths) (now «class_ids») (now loaders) (now dumped) (now «class_kinds») (now «slot_start») (now «slot_end») (now «static_start») (now «static_end») (now «slot_offsets») (now «slot_labels») (now «slot_weak») (now names) (now types) (now values) «name_count» (now codes) (now «escape_places») (now «escape_ids») base (now starts) (now roots) policy) (length (now targets)) (length (now labels)) (length (now «weak_from»)) (length (now «weak_to»)) (now working) (now account)) ⌝ }
+    ensures { λ r. ⌜ Edged (copiedInput (now (ids .entry)) (now (kinds .entry)) (now (classes .entry)) (now (lengths .entry)) (now («class_ids» .entry)) (now (loaders .entry)) (now (dumped .entry)) (now («class_kinds» .entry)) (now («slot_start» .entry)) (now («slot_end» .entry)) (now («static_start» .entry)) (now («static_end» .entry)) (now («slot_offsets» .entry)) (now («slot_labels» .entry)) (now («slot_weak» .entry)) (now (names .entry)) (now (types .entry)) (now (values .entry)) «name_count» (now (codes .entry)) (now («escape_places» .entry)) (now («escape_ids» .entry)) base (now (starts .entry)) (now (roots .entry)) policy) v r (now (targets .entry)) (now (labels .entry)) (now («weak_from» .entry)) (now («weak_to» .entry)) (now (working .entry)) (now (targets .exit)) (now (labels .exit)) (now («weak_from» .exit)) (now («weak_to» .exit)) (now (working .exit)) (now (account .exit)) ⌝ }
+{
+    if !rules::accepted(v) {
+        return v;
+    }
+    let q = range::walk_copied(
+        Pass::begun(),
+        0,
+        ids.len(),
+        policy,
+        kinds,
+        classes,
+        lengths,
+        starts,
+        working,
+        ids,
+        codes,
+        escape_places,
+        escape_ids,
+        base,
+        class_kinds,
+        slot_start,
+        slot_end,
+        slot_labels,
+        slot_weak,
+        loaders,
+        static_start,
+        static_end,
+        names,
+        types,
+        values,
+        targets,
+        labels,
+        weak_from,
+        weak_to,
+        account,
+    );
+    with_pass(v, q)
+}
+
+// By the raw route.
+pub fn edges_raw(
+    v: rules::Built,
+    ids: &[u64],
+    kinds: &[u8],
+    classes: &[u32],
+    lengths: &[u32],
+    class_ids: &[u64],
+    loaders: &[u64],
+    dumped: &[u8],
+    class_kinds: &[u8],
+    slot_start: &[u32],
+    slot_end: &[u32],
+    static_start: &[u32],
+    static_end: &[u32],
+    slot_offsets: &[u32],
+    slot_labels: &[u32],
+    slot_weak: &[u8],
+    names: &[u32],
+    types: &[u8],
+    values: &[u64],
+    name_count: u64,
+    bytes: &[u8],
+    size: usize,
+    starts: &[u64],
+    bodies: &[u32],
+    roots: &[u32],
+    policy: rules::ReferencePolicy,
+    working: &mut [u64],
+    targets: &mut [u32],
+    labels: &mut [u32],
+    weak_from: &mut [u32],
+    weak_to: &mut [u32],
+    account: &mut [[u64; 3]; 4],
+) -> rules::Built
+    requires { ⌜ (accepts (builtSays v) ≡ true → Handed (rawInput (now ids) (now kinds) (now classes) (now lengths) (now «class_ids») (now loaders) (now dumped) (now «class_kinds») (now «slot_start») (now «slot_end») (now «static_start») (now «static_end») (now «slot_offsets») (now «slot_labels») (now «slot_weak») (now names) (now types) (now values) «name_count» (now bytes) size (now starts) (now bodies) (now roots) policy) (length (now targets)) (length (now labels)) (length (now «weak_from»)) (length (now «weak_to»)) (now working) (now account)) ⌝ }
+    ensures { λ r. ⌜ Edged (rawInput (now (ids .entry)) (now (kinds .entry)) (now (classes .entry)) (now (lengths .entry)) (now («class_ids» .entry)) (now (loaders .entry)) (now (dumped .entry)) (now («class_kinds» .entry)) (now («slot_start» .entry)) (now («slot_end» .entry)) (now («static_start» .entry)) (now («static_end» .entry)) (now («slot_offsets» .entry)) (now («slot_labels» .entry)) (now («slot_weak» .entry)) (now (names .entry)) (now (types .entry)) (now (values .entry)) «name_count» (now (bytes .entry)) size (now (starts .entry)) (now (bodies .entry)) (now (roots .entry)) policy) v r (now (targets .entry)) (now (labels .entry)) (now («weak_from» .entry)) (now («weak_to» .entry)) (now (working .entry)) (now (targets .exit)) (now (labels .exit)) (now («weak_from» .exit)) (now («weak_to» .exit)) (now (working .exit)) (now (account .exit)) ⌝ }
+{
+    if !rules::accepted(v) {
+        return v;
+    }
+    let q = range::walk_raw(
+        Pass::begun(),
+        0,
+        ids.len(),
+        policy,
+        kinds,
+        classes,
+        lengths,
+        starts,
+        bodies,
+        working,
+        ids,
+        bytes,
+        size,
+        class_kinds,
+        slot_start,
+        slot_end,
+        slot_offsets,
+        slot_labels,
+        slot_weak,
+        loaders,
+        static_start,
+        static_end,
+        names,
+        types,
+        values,
+        targets,
+        labels,
+        weak_from,
+        weak_to,
+        account,
+    );
+    with_pass(v, q)
+}
