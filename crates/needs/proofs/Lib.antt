@@ -3,3 +3,4 @@ pub mod Marking
 pub mod Layers
 pub mod Capped
 pub mod Uncoded
+pub mod Theorems

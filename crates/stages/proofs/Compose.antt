@@ -210,8 +210,8 @@ weak-even x = length-map (weakPairs x) _ ∙ sym (length-map (weakPairs x) _)
 
 -- All that is left, from what each half leaves.
 module _
-    (x : Input) (l : Lent) {before says ts₀ ls₀ fs₀ ws₀ rs₀ wk₀ ts₁ ls₁ fs₁ ws₁ rs₁ wk₁ ts ls fs ws rs wk : List ℕ} {a₁ a : List (List ℕ)} {d : CodedLeft}
-    (laid : Laid x before ts₀ ls₀ fs₀ ws₀ rs₀ wk₀ ts₁ ls₁ fs₁ ws₁ rs₁ wk₁ a₁) (settled : Settled says ts₁ ls₁ fs₁ ws₁ rs₁ wk₁ a₁ ts ls fs ws rs wk a)
+    (x : Input) (l : Lent) (ls₀ wk₀ : List ℕ) {before says ts₀ fs₀ ws₀ rs₀ ts₁ ls₁ fs₁ ws₁ rs₁ wk₁ ts ls fs ws rs wk : List ℕ} {a₁ a : List (List ℕ)} {d : CodedLeft}
+    (laid : Laid x before ts₀ fs₀ ws₀ rs₀ ts₁ ls₁ fs₁ ws₁ rs₁ wk₁ a₁) (settled : Settled says ts₁ ls₁ fs₁ ws₁ rs₁ wk₁ a₁ ts ls fs ws rs wk a)
     (first : before ≡ edgeSays x (earlyOf (roomsOf (length ts₀) (length ls₀) (length fs₀) (length ws₀) (length rs₀) (length wk₀) l)))
     (then : says ≡ cond (accepts before) (firstOf (at 9 (shortOfParts (x .schema) (graph x) l)) (counts (x .schema) (graph x))) before)
     (coded : d ≡ codedLeft says (x .schema) (graph x) l) (tn : length ts₁ ≡ length ts₀) (ln : length ls₁ ≡ length ls₀) (fn : length fs₁ ≡ length fs₀)

@@ -4,7 +4,7 @@ use mathlib.Core.Path.{_≡_}
 use mathlib.Core.Bool.{true, cond}
 use mathlib.Core.List.{List, [], _∷_, _++_}
 use lib.Dec.{ltb}
-use lib.ListN.{length, getD}
+use lib.ListN.{length, getD, take}
 use Rattle.columns.specs.Lists.{_!_}
 use Rattle.columns.specs.Columns.{over, cleared, accepts}
 use Rattle.store.specs.Blocked.{blocksOf}
@@ -94,12 +94,17 @@ leftOf says ts ls fs ws rs wk coded a = record {
 abbrev pub roomsOf : ℕ → ℕ → ℕ → ℕ → ℕ → ℕ → Lent → Rooms
 roomsOf ts ls fs ws rs wk l = record { targets = ts; labels = ls; weakFrom = fs; weakTo = ws; roots = rs; working = wk; coded = l }
 
--- What the first half leaves where it accepts: the plain columns of the graph, over the fronts of the columns lent, and the account.
-pub record Laid (x : Input) (says ts₀ ls₀ fs₀ ws₀ rs₀ wk₀ ts ls fs ws rs wk : List ℕ) (a : List (List ℕ)) : Type 0 where
+-- a column that begins with xs
+abbrev pub Begins : List ℕ → List ℕ → Type 0
+Begins xs d = take (length xs) d ≡ xs
+
+-- What the first half leaves where it accepts: the plain columns of the graph, over the fronts of the columns lent, and the account. The work columns
+-- begin with the labels and the offsets.
+pub record Laid (x : Input) (says ts₀ fs₀ ws₀ rs₀ ts ls fs ws rs wk : List ℕ) (a : List (List ℕ)) : Type 0 where
   pub targets : accepts says ≡ true → ts ≡ over (graph x .targets) ts₀
-  pub labels : accepts says ≡ true → ls ≡ over (graph x .labels) ls₀
+  pub labels : accepts says ≡ true → Begins (graph x .labels) ls
   pub weak-from : accepts says ≡ true → fs ≡ over (graph x .weakFrom) fs₀
   pub weak-to : accepts says ≡ true → ws ≡ over (graph x .weakTo) ws₀
   pub roots : accepts says ≡ true → rs ≡ over (graph x .roots) rs₀
-  pub offsets : accepts says ≡ true → wk ≡ over (graph x .offsets) wk₀
+  pub offsets : accepts says ≡ true → Begins (graph x .offsets) wk
   pub account : accepts says ≡ true → a ≡ account x
