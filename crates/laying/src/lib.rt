@@ -1,8 +1,404 @@
-// The first half of a build: the checks, the needs, ROOM 1 to 4, and the edges.
+// The first half of a build: the checks, the needs, ROOM 1 to 4, and the edges. A wide function is a straight line of stages; a stage that is handed a
+// refusal hands it on.
+use rules::Built;
+use rules::Checked;
+use rules::ReferencePolicy;
 ghost use mathlib.Core.Path.{_≡_};
+ghost use mathlib.Core.Bool.{true};
+ghost use Prim.Native.Nat.{_^_, _≤_};
+ghost use lib.ListN.{length};
+ghost use Rattle.columns.specs.Columns.{accepts};
+ghost use Rattle.index.specs.Copied.{idsOf};
+ghost use Rattle.rules.specs.Types.{checkedSays};
+ghost use Rattle.rules.specs.Account.{noAccount};
+ghost use Rattle.needs.specs.Roots.{Below, ClassMarks, Collected};
+ghost use Rattle.pairs.specs.Pairs.{copiedTotal, rawTotal};
+ghost use Rattle.checks.specs.Flat.{copiedInput, rawInput};
+ghost use Rattle.laying.specs.Laying.{Laying, CopiedAsked, RawAsked};
 
-pub fn none() -> usize
-    ensures { λ r. ⌜ r ≡ 0 ⌝ }
+fn passed(c: Checked) -> bool
+    ensures { λ r. ⌜ r ≡ accepts (checkedSays c) ⌝ }
 {
-    0
+    match c {
+        Checked::Accepted(_) => true,
+        Checked::Refused(_) => false,
+    }
+}
+
+// The account starts at zero.
+fn begin(account: &mut [[u64; 3]; 4])
+    ensures { λ _. ⌜ now (account .exit) ≡ noAccount ⌝ }
+{
+    let none: [[u64; 3]; 4] = [[0, 0, 0], [0, 0, 0], [0, 0, 0], [0, 0, 0]];
+    *account = none;
+}
+
+// The need of buffer 3, and the roots, of an input that the checks accept.
+fn roots_of(
+    c: Checked,
+    roots: &[u32],
+    objects: usize,
+    working: &mut [u64],
+    out: &mut [u32],
+) -> usize
+    requires { ⌜ (accepts (checkedSays c) ≡ true → Below objects (now roots) × (objects ≤ 2 ^ 32) × ClassMarks objects (now working)) ⌝ }
+    ensures { λ r. ⌜ (accepts (checkedSays c) ≡ true → Collected (now (roots .entry)) objects (now (working .entry)) (now (out .entry)) r (now (working .exit)) (now (out .exit))) ⌝ }
+{
+    if !passed(c) {
+        return 0;
+    }
+    needs::roots::collect_roots(roots, objects, working, out)
+}
+
+// The need of buffer 2, of an input that the checks accept.
+fn weak_copied(
+    c: Checked,
+    ids: &[u64],
+    kinds: &[u8],
+    classes: &[u32],
+    starts: &[u32],
+    codes: &[u32],
+    escape_places: &[u64],
+    escape_ids: &[u64],
+    base: u64,
+    class_kinds: &[u8],
+    slot_starts: &[u32],
+    slot_ends: &[u32],
+    slot_weak: &[u8],
+    policy: ReferencePolicy,
+) -> usize
+    requires { ⌜ (accepts (checkedSays c) ≡ true → CopiedAsked (now ids) (now kinds) (now classes) (now starts) (now «class_kinds») (now «slot_starts») (now «slot_ends») (length (now «slot_weak»))) ⌝ }
+    ensures { λ r. ⌜ (accepts (checkedSays c) ≡ true → r ≡ copiedTotal (now (ids .entry)) (now (kinds .entry)) (now (classes .entry)) (now (starts .entry)) (idsOf (now (codes .entry)) (now («escape_places» .entry)) (now («escape_ids» .entry)) base) (now («class_kinds» .entry)) (now («slot_starts» .entry)) (now («slot_ends» .entry)) (now («slot_weak» .entry)) policy (length (now (ids .entry)))) ⌝ }
+{
+    if !passed(c) {
+        return 0;
+    }
+    pairs::copied::count_weak_copied(
+        ids,
+        kinds,
+        classes,
+        starts,
+        codes,
+        escape_places,
+        escape_ids,
+        base,
+        class_kinds,
+        slot_starts,
+        slot_ends,
+        slot_weak,
+        policy,
+    )
+}
+
+// The need of buffer 2, of an input that the checks accept.
+fn weak_raw(
+    c: Checked,
+    ids: &[u64],
+    kinds: &[u8],
+    classes: &[u32],
+    starts: &[u64],
+    bodies: &[u32],
+    bytes: &[u8],
+    size: usize,
+    class_kinds: &[u8],
+    slot_starts: &[u32],
+    slot_ends: &[u32],
+    slot_offsets: &[u32],
+    slot_weak: &[u8],
+    policy: ReferencePolicy,
+) -> usize
+    requires { ⌜ (accepts (checkedSays c) ≡ true → RawAsked (now ids) (now kinds) (now classes) (now starts) (now bodies) (length (now bytes)) size (now «class_kinds») (now «slot_starts») (now «slot_ends») (length (now «slot_offsets»)) (length (now «slot_weak»))) ⌝ }
+    ensures { λ r. ⌜ (accepts (checkedSays c) ≡ true → r ≡ rawTotal (now (ids .entry)) (now (kinds .entry)) (now (classes .entry)) (now (starts .entry)) (now (bodies .entry)) (now (bytes .entry)) size (now («class_kinds» .entry)) (now («slot_starts» .entry)) (now («slot_ends» .entry)) (now («slot_offsets» .entry)) (now («slot_weak» .entry)) policy (length (now (ids .entry)))) ⌝ }
+{
+    if !passed(c) {
+        return 0;
+    }
+    pairs::raw::count_weak_raw(
+        ids,
+        kinds,
+        classes,
+        starts,
+        bodies,
+        bytes,
+        size,
+        class_kinds,
+        slot_starts,
+        slot_ends,
+        slot_offsets,
+        slot_weak,
+        policy,
+    )
+}
+
+// By the copied route; `bases` and `short` are the lengths lent for these columns, which ROOM 4 tests.
+pub fn lay_copied(
+    ids: &[u64],
+    kinds: &[u8],
+    classes: &[u32],
+    lengths: &[u32],
+    class_ids: &[u64],
+    loaders: &[u64],
+    dumped: &[u8],
+    class_kinds: &[u8],
+    slot_starts: &[u32],
+    slot_ends: &[u32],
+    static_starts: &[u32],
+    static_ends: &[u32],
+    slot_offsets: &[u32],
+    slot_labels: &[u32],
+    slot_weak: &[u8],
+    static_names: &[u32],
+    static_types: &[u8],
+    static_values: &[u64],
+    names: usize,
+    codes: &[u32],
+    escape_places: &[u64],
+    escape_ids: &[u64],
+    base: u64,
+    starts: &[u32],
+    roots: &[u32],
+    policy: ReferencePolicy,
+    bases: usize,
+    short: usize,
+    targets: &mut [u32],
+    labels: &mut [u32],
+    weak_from: &mut [u32],
+    weak_to: &mut [u32],
+    roots_out: &mut [u32],
+    working: &mut [u64],
+    account: &mut [[u64; 3]; 4],
+) -> Built
+    ensures { λ r. ⌜ Laying (copiedInput (now (ids .entry)) (now (kinds .entry)) (now (classes .entry)) (now (lengths .entry)) (now («class_ids» .entry)) (now (loaders .entry)) (now (dumped .entry)) (now («class_kinds» .entry)) (now («slot_starts» .entry)) (now («slot_ends» .entry)) (now («static_starts» .entry)) (now («static_ends» .entry)) (now («slot_offsets» .entry)) (now («slot_labels» .entry)) (now («slot_weak» .entry)) (now («static_names» .entry)) (now («static_types» .entry)) (now («static_values» .entry)) names (now (codes .entry)) (now («escape_places» .entry)) (now («escape_ids» .entry)) base (now (starts .entry)) (now (roots .entry)) policy) bases short r (now (targets .entry)) (now (labels .entry)) (now («weak_from» .entry)) (now («weak_to» .entry)) (now («roots_out» .entry)) (now (working .entry)) (now (targets .exit)) (now (labels .exit)) (now («weak_from» .exit)) (now («weak_to» .exit)) (now («roots_out» .exit)) (now (working .exit)) (now (account .exit)) ⌝ }
+{
+    let c = checks::check_copied(
+        ids,
+        kinds,
+        classes,
+        lengths,
+        class_ids,
+        loaders,
+        dumped,
+        class_kinds,
+        slot_starts,
+        slot_ends,
+        static_starts,
+        static_ends,
+        slot_offsets,
+        slot_labels,
+        slot_weak,
+        static_names,
+        static_types,
+        static_values,
+        names,
+        codes,
+        escape_places,
+        escape_ids,
+        base,
+        starts,
+        roots,
+        policy,
+        working,
+    );
+    let w = weak_copied(
+        c,
+        ids,
+        kinds,
+        classes,
+        starts,
+        codes,
+        escape_places,
+        escape_ids,
+        base,
+        class_kinds,
+        slot_starts,
+        slot_ends,
+        slot_weak,
+        policy,
+    );
+    let n = roots_of(c, roots, ids.len(), working, roots_out);
+    let v = stages::first_rooms(
+        c,
+        w,
+        n,
+        ids.len(),
+        targets.len(),
+        labels.len(),
+        weak_from.len(),
+        weak_to.len(),
+        roots_out.len(),
+        bases,
+        short,
+        working.len(),
+    );
+    begin(account);
+    walk::stage::edges_copied(
+        v,
+        ids,
+        kinds,
+        classes,
+        lengths,
+        class_ids,
+        loaders,
+        dumped,
+        class_kinds,
+        slot_starts,
+        slot_ends,
+        static_starts,
+        static_ends,
+        slot_offsets,
+        slot_labels,
+        slot_weak,
+        static_names,
+        static_types,
+        static_values,
+        names,
+        codes,
+        escape_places,
+        escape_ids,
+        base,
+        starts,
+        roots,
+        policy,
+        working,
+        targets,
+        labels,
+        weak_from,
+        weak_to,
+        account,
+    )
+}
+
+// By the raw route; `bases` and `short` are the lengths lent for these columns, which ROOM 4 tests.
+pub fn lay_raw(
+    ids: &[u64],
+    kinds: &[u8],
+    classes: &[u32],
+    lengths: &[u32],
+    class_ids: &[u64],
+    loaders: &[u64],
+    dumped: &[u8],
+    class_kinds: &[u8],
+    slot_starts: &[u32],
+    slot_ends: &[u32],
+    static_starts: &[u32],
+    static_ends: &[u32],
+    slot_offsets: &[u32],
+    slot_labels: &[u32],
+    slot_weak: &[u8],
+    static_names: &[u32],
+    static_types: &[u8],
+    static_values: &[u64],
+    names: usize,
+    bytes: &[u8],
+    size: usize,
+    starts: &[u64],
+    bodies: &[u32],
+    roots: &[u32],
+    policy: ReferencePolicy,
+    bases: usize,
+    short: usize,
+    targets: &mut [u32],
+    labels: &mut [u32],
+    weak_from: &mut [u32],
+    weak_to: &mut [u32],
+    roots_out: &mut [u32],
+    working: &mut [u64],
+    account: &mut [[u64; 3]; 4],
+) -> Built
+    ensures { λ r. ⌜ Laying (rawInput (now (ids .entry)) (now (kinds .entry)) (now (classes .entry)) (now (lengths .entry)) (now («class_ids» .entry)) (now (loaders .entry)) (now (dumped .entry)) (now («class_kinds» .entry)) (now («slot_starts» .entry)) (now («slot_ends» .entry)) (now («static_starts» .entry)) (now («static_ends» .entry)) (now («slot_offsets» .entry)) (now («slot_labels» .entry)) (now («slot_weak» .entry)) (now («static_names» .entry)) (now («static_types» .entry)) (now («static_values» .entry)) names (now (bytes .entry)) size (now (starts .entry)) (now (bodies .entry)) (now (roots .entry)) policy) bases short r (now (targets .entry)) (now (labels .entry)) (now («weak_from» .entry)) (now («weak_to» .entry)) (now («roots_out» .entry)) (now (working .entry)) (now (targets .exit)) (now (labels .exit)) (now («weak_from» .exit)) (now («weak_to» .exit)) (now («roots_out» .exit)) (now (working .exit)) (now (account .exit)) ⌝ }
+{
+    let c = checks::check_raw(
+        ids,
+        kinds,
+        classes,
+        lengths,
+        class_ids,
+        loaders,
+        dumped,
+        class_kinds,
+        slot_starts,
+        slot_ends,
+        static_starts,
+        static_ends,
+        slot_offsets,
+        slot_labels,
+        slot_weak,
+        static_names,
+        static_types,
+        static_values,
+        names,
+        bytes,
+        size,
+        starts,
+        bodies,
+        roots,
+        policy,
+        working,
+    );
+    let w = weak_raw(
+        c,
+        ids,
+        kinds,
+        classes,
+        starts,
+        bodies,
+        bytes,
+        size,
+        class_kinds,
+        slot_starts,
+        slot_ends,
+        slot_offsets,
+        slot_weak,
+        policy,
+    );
+    let n = roots_of(c, roots, ids.len(), working, roots_out);
+    let v = stages::first_rooms(
+        c,
+        w,
+        n,
+        ids.len(),
+        targets.len(),
+        labels.len(),
+        weak_from.len(),
+        weak_to.len(),
+        roots_out.len(),
+        bases,
+        short,
+        working.len(),
+    );
+    begin(account);
+    walk::stage::edges_raw(
+        v,
+        ids,
+        kinds,
+        classes,
+        lengths,
+        class_ids,
+        loaders,
+        dumped,
+        class_kinds,
+        slot_starts,
+        slot_ends,
+        static_starts,
+        static_ends,
+        slot_offsets,
+        slot_labels,
+        slot_weak,
+        static_names,
+        static_types,
+        static_values,
+        names,
+        bytes,
+        size,
+        starts,
+        bodies,
+        roots,
+        policy,
+        working,
+        targets,
+        labels,
+        weak_from,
+        weak_to,
+        account,
+    )
 }

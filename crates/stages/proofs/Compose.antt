@@ -21,7 +21,7 @@ use Rattle.rules.specs.Account.{account, noAccount}
 use Rattle.rules.specs.Needs.{Rooms, Lent, buffer, needWeak, needRoots, needOffsets, needBases, shortLater, shortOfBuild, shortOfParts}
 use Rattle.rules.specs.Verdict.{firstOf, at, faults, checkSays, counts, buildSays}
 use Rattle.rules.specs.Built.{CodedLeft, codedLeft, BuildLeft, buildLeft}
-use Rattle.rules.proofs.Acceptance.{Refuse, refuse-append, refuse-at, at-empty, faults-refuse, build-says}
+use Rattle.rules.proofs.Acceptance.{Refuse, refuse-append, refuse-at, at-empty, Passed, passed, faults-refuse, build-says}
 use Rattle.stages.specs.Stages.{Early, earlyOf, shortEarly, roomSays, plain, edgesSays, edgeSays, kept, Settled, leftOf, roomsOf, Laid}
 
 -- The first fault refuses.
@@ -95,6 +95,22 @@ module _ (x : Input) (e : Early) {c v r : List ℕ} (w n : ℕ) (checked : c ≡
         go : (fs : List (List ℕ)) → faults x ≡ fs → r ≡ edgeSays x e
         go [] h = passes h
         go (f ∷ fs) h = fails f fs h
+
+-- where the first half accepts, there is no fault, and the answer has the numbers of the graph
+module _ (x : Input) (e : Early) (ok : accepts (edgeSays x e) ≡ true) where
+  abbrev short : List ℕ
+  short = shortEarly (placeCount x) (needWeak x) (needRoots x) (needOffsets (graph x)) e
+
+  none-met : faults x ++ at 9 short ≡ []
+  unfolding edgeSays
+  none-met = refuse-append (faults-refuse x) (refuse-at 9 refl short) .none-met (plain (graph x)) ok
+
+  pub edge-passed : Passed x
+  edge-passed = passed x (append-empty (faults x) (at 9 short) none-met .0)
+
+  pub edge-accepts : edgeSays x e ≡ plain (graph x)
+  unfolding edgeSays
+  edge-accepts = rw none-met
 
 -- The whole: ROOM 5 to 9 behind the first half.
 four : (a b c d l : List ℕ) → ((a ++ b) ++ c) ++ d ++ l ≡ (a ++ (b ++ (c ++ d))) ++ l

@@ -1,0 +1,104 @@
+-- The two halves of a build are the build of the rules. Assumes nothing.
+use Prim.Native.Nat.{ℕ, suc, _+_}
+use native.Mathlib.Numerals.{add-one}
+use mathlib.Core.Path.{_≡_, refl, sym, ap, _∙_}
+use mathlib.Core.Bool.{Bool, true, false, cond, true≢false}
+use mathlib.Core.List.{List, [], _∷_}
+use lib.ListN.{length, take, length-map}
+use Rattle.columns.specs.Columns.{accepts}
+use Rattle.columns.proofs.Lists.{tab-length}
+use Rattle.rules.specs.declared.Built.{Built}
+use Rattle.rules.specs.Types.{builtSays}
+use Rattle.rules.specs.Input.{Input, Schema, objectCount, classCount}
+use Rattle.rules.specs.Edges.{Parts, graph, offset, edges}
+use Rattle.rules.specs.Needs.{Lent, Rooms, shortOfParts}
+use Rattle.rules.specs.Verdict.{firstOf, at, counts}
+use Rattle.rules.specs.Built.{CodedLeft, codedLeft, buildLeft}
+use Rattle.rules.proofs.Acceptance.{check-passed}
+use Rattle.rules.proofs.Laid.{build-meets}
+use Rattle.rules.proofs.Used.{refused-coded}
+use Rattle.coding.specs.Stages.{handOn, Ready}
+use Rattle.coding.specs.Finished.{Coding, Hands, Finished, namingOf, plainCounts}
+use Rattle.stages.specs.Stages.{kept, edgeSays, early, plain, leftOf, roomsOf, Laid}
+use Rattle.stages.proofs.Compose.{built-left, edge-accepts}
+use Rattle.laying.specs.Laying.{Laying}
+use Rattle.build.specs.Build.{offsetsUsed, labelsUsed, Rest}
+
+offsets-count : (x : Input) → length (graph x .offsets) ≡ objectCount x + 1
+unfolding graph
+offsets-count x = tab-length (offset x) (suc (objectCount x)) ∙ sym (add-one (objectCount x))
+
+labels-even : (x : Input) → length (graph x .targets) ≡ length (graph x .labels)
+unfolding graph
+labels-even x = length-map (edges x) _ ∙ sym (length-map (edges x) _)
+
+-- any plain columns with these offsets and labels: of a refused build nothing more is asked
+abbrev anyParts : List ℕ → List ℕ → Parts
+anyParts offsets labels = record { offsets = offsets; labels = labels; targets = []; weakFrom = []; weakTo = []; roots = []; dangling = 0 }
+
+module _
+    (x : Input) (l : Lent) (ts₀ ls₀ fs₀ ws₀ rs₀ wk₀ : List ℕ) {v : Built} {says ts₁ ls₁ fs₁ ws₁ rs₁ wk₁ ts ls fs ws rs wk : List ℕ} {a₁ a : List (List ℕ)} {d : CodedLeft}
+    (half : Laying x (l .bases) (l .short) v ts₀ ls₀ fs₀ ws₀ rs₀ wk₀ ts₁ ls₁ fs₁ ws₁ rs₁ wk₁ a₁)
+  where
+    abbrev s : Schema
+    s = x .schema
+
+    abbrev before : List ℕ
+    before = builtSays v
+
+    -- where the first half accepts, its answer and the work columns are those of the graph
+    told : accepts before ≡ true → before ≡ plainCounts (graph x)
+    told ok = half .answer ∙ edge-accepts x (early (length ts₀) (length ls₀) (length fs₀) (length ws₀) (length rs₀) (l .bases) (l .short) (length wk₀)) (ap accepts (sym (half .answer)) ∙ ok)
+
+    edges-told : accepts before ≡ true → kept 1 before ≡ length (graph x .targets)
+    unfolding kept
+    edges-told ok = rw (ok, told ok)
+
+    pub offsets-are : accepts before ≡ true → offsetsUsed (objectCount x) wk₁ ≡ graph x .offsets
+    offsets-are ok = ap (λ (n : ℕ). take n wk₁) (sym (offsets-count x)) ∙ half .laid .offsets ok
+
+    pub labels-are : length (graph x .targets) ≡ length (graph x .labels) → accepts before ≡ true → labelsUsed before ls₁ ≡ graph x .labels
+    labels-are even ok = ap (λ (n : ℕ). take n ls₁) (edges-told ok ∙ even) ∙ half .laid .labels ok
+
+    module _ (rest : Rest (namingOf s) (classCount s) (s .names) (objectCount x) before ts₁ ls₁ fs₁ ws₁ rs₁ wk₁ a₁ l says ts ls fs ws rs wk a d) where
+      abbrev offsets : List ℕ
+      offsets = offsetsUsed (objectCount x) wk₁
+
+      abbrev labels : List ℕ
+      labels = labelsUsed before ls₁
+
+      -- the schema and the plain columns that coding is handed
+      of-graph : accepts before ≡ true → Finished s (graph x) before l says d
+      of-graph ok =
+          rest .coded s (graph x)
+          (record { named = refl; classes = refl; names = refl; offsets = sym (offsets-are ok); labels = sym (labels-are (labels-even x) ok); told = told })
+
+      of-any : accepts before ≡ false → Finished s (anyParts offsets labels) before l says d
+      of-any h =
+          rest .coded s (anyParts offsets labels)
+          (record { named = refl; classes = refl; names = refl; offsets = refl; labels = refl; told = λ ok. absurd (true≢false (sym ok ∙ h)) })
+
+      handed-on : accepts before ≡ false → says ≡ before
+      unfolding handOn
+      handed-on h = of-any h .answer ∙ rw h
+
+      then-said : says ≡ cond (accepts before) (firstOf (at 9 (shortOfParts s (graph x) l)) (counts s (graph x))) before
+      unfolding handOn
+      then-said = go (accepts before) refl
+        where
+          go : (b : Bool) → accepts before ≡ b → says ≡ cond (accepts before) (firstOf (at 9 (shortOfParts s (graph x) l)) (counts s (graph x))) before
+          go true ok = of-graph ok .answer
+          go false h = handed-on h ∙ sym (rw h)
+
+      coded-said : d ≡ codedLeft says s (graph x) l
+      coded-said = go (accepts before) refl
+        where
+          go : (b : Bool) → accepts before ≡ b → d ≡ codedLeft says s (graph x) l
+          go true ok = of-graph ok .columns
+          go false h =
+              let refused : accepts says ≡ false = ap accepts (handed-on h) ∙ h in
+              of-any h .columns ∙ refused-coded says refused s (anyParts offsets labels) l ∙ sym (refused-coded says refused s (graph x) l)
+
+      pub whole : length ts₁ ≡ length ts₀ → length ls₁ ≡ length ls₀ → length fs₁ ≡ length fs₀ → length ws₁ ≡ length ws₀ → length rs₁ ≡ length rs₀ → length wk₁ ≡ length wk₀
+          → leftOf says ts ls fs ws rs wk d a ≡ buildLeft x (roomsOf (length ts₀) (length ls₀) (length fs₀) (length ws₀) (length rs₀) (length wk₀) l)
+      whole tn ln fn wn rn kn = built-left x l ls₀ wk₀ (half .laid) (rest .settled) (half .answer) then-said coded-said tn ln fn wn rn kn
