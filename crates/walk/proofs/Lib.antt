@@ -1,4 +1,3 @@
-pub mod Whole
 pub mod Walks
 pub mod Bridge
 pub mod Steps
@@ -8,3 +7,4 @@ pub mod Parted
 pub mod Comes
 pub mod Counted
 pub mod Stages
+pub mod Cuts

@@ -28,7 +28,7 @@ row-with : (ids r : List ℕ) (rs : List Ref) → RowGrown ids r (rowWith ids r 
 unfolding rowWith
 row-with ids r rs = record { edges = refl; weak = refl; missing = refl }
 
-row-on : {ids r r′ r″ : List ℕ} {rs qs : List Ref} → RowGrown ids r r′ rs → RowGrown ids r′ r″ qs → RowGrown ids r r″ (rs ++ qs)
+pub row-on : {ids r r′ r″ : List ℕ} {rs qs : List Ref} → RowGrown ids r r′ rs → RowGrown ids r′ r″ qs → RowGrown ids r r″ (rs ++ qs)
 row-on {ids} {rs = rs} {qs = qs} g h = record {
   edges = rw (edges-append ids rs qs) (omega (arith, g .edges, h .edges, length-append (edgesIn ids rs) (edgesIn ids qs)));
   weak = rw (weak-append ids rs qs) (omega (arith, g .weak, h .weak, length-append (weakIn ids rs) (weakIn ids qs)));

@@ -1,6 +1,6 @@
 // A pass over a range of objects, from the state that the pass before it handed on.
-use super::step;
 use graph::Pass;
+use steps::step;
 ghost use Prim.Native.Nat.{ℕ, _+_, _<_};
 ghost use mathlib.Core.List.{[]};
 ghost use lib.ListN.{length};

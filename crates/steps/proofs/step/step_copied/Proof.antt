@@ -1,11 +1,11 @@
--- `walk::step::step_copied` meets its contract: the object's row is read, and its offset written behind it. Assumes nothing.
+-- `steps::step::step_copied` meets its contract: the object's row is read, and its offset written behind it. Assumes nothing.
 use mathlib.Core.Path.{refl}
 use native.Mathlib.Omega.{arith}
 use lib.ListN.{length-set}
-use Rattle.walk.proofs.Whole.{done-targets, done-labels, done-objects, done-weak}
+use Rattle.steps.proofs.Whole.{done-targets, done-labels, done-objects, done-weak}
 use borrow.Author.Needs.{needs}
-use Rattle.walk.proofs.step.step_copied.Statement.{statement}
-use Rattle.walk.proofs.step.step_copied.Tie as tie
+use Rattle.steps.proofs.step.step_copied.Statement.{statement}
+use Rattle.steps.proofs.step.step_copied.Tie as tie
 
 mul-index : tie.Need-mul-index
 mul-index c =
