@@ -146,7 +146,16 @@ fn finish(
         counting,
         ranking,
     );
-    stages::settle(r, targets, labels, weak_from, weak_to, roots_out, working, account);
+    stages::settle(
+        r,
+        targets,
+        labels,
+        weak_from,
+        weak_to,
+        roots_out,
+        working,
+        account,
+    );
     r
 }
 

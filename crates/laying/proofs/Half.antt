@@ -45,7 +45,7 @@ module _ (x : Input) (m : ℕ) (long : objectCount x < m) {w : List ℕ} (ok : a
   unfolding marks
   mark-front = ap (λ (z : List ℕ). z ! 0) are-marks ∙ tab-at (markAt x (classCount (x .schema))) 0 m 0 (omega arith)
 
-  mark-is : (o : ℕ) → o < objectCount x → w ! suc o ≡ markTo x o (classCount (x .schema))
+  pub mark-is : (o : ℕ) → o < objectCount x → w ! suc o ≡ markTo x o (classCount (x .schema))
   unfolding marks
   mark-is o l =
       ap (λ (z : List ℕ). z ! suc o) are-marks ∙ tab-at (markAt x (classCount (x .schema))) 0 m (suc o) (omega arith)
@@ -56,7 +56,7 @@ module _ (x : Input) (m : ℕ) (long : objectCount x < m) {w : List ℕ} (ok : a
       ap (λ (k : ℕ). marked (w ! k)) (add-one o) ∙ ap marked (mark-is o l)
       ∙ marks-tell x (check-passed x ok) o l (markTo x o) refl (λ c. refl)
 
-mark-most : (x : Input) (o c : ℕ) → markTo x o c ≤ c
+pub mark-most : (x : Input) (o c : ℕ) → markTo x o c ≤ c
 mark-most x o zero = omega arith
 mark-most x o (suc c) = go (foundAt x o c) (mark-most x o c)
   where
@@ -90,9 +90,9 @@ take-over xs d = take-at xs (drop (length xs) d) (length xs) refl
 
 -- The first half, from what each stage says.
 module _
-    (x : Input) (b s : ℕ) {c : Checked} {v r : Built} (w n : ℕ) (ts₀ ls₀ fs₀ ws₀ rs₀ wk₀ : List ℕ) {wk₁ wk₂ rs ts ls fs ws wk : List ℕ} {a₁ a : List (List ℕ)}
-    (j : Judged x (length wk₀) c wk₁) (weak : accepts (checkedSays c) ≡ true → w ≡ needWeak x)
-    (rooted : accepts (checkedSays c) ≡ true → Collected (x .roots) (objectCount x) wk₁ rs₀ n wk₂ rs) (kn : length wk₂ ≡ length wk₀) (rn : length rs ≡ length rs₀)
+    (x : Input) (b s : ℕ) {c : Checked} (v : Built) (w n : ℕ) (ts₀ ls₀ fs₀ ws₀ rs₀ wk₀ : List ℕ) {wk₁ : List ℕ} (wk₂ rs : List ℕ) (j : Judged x (length wk₀) c wk₁)
+    (weak : accepts (checkedSays c) ≡ true → w ≡ needWeak x) (rooted : accepts (checkedSays c) ≡ true → Collected (x .roots) (objectCount x) wk₁ rs₀ n wk₂ rs)
+    (kn : length wk₂ ≡ length wk₀) (rn : length rs ≡ length rs₀)
     (rooms : builtSays v ≡ roomSays (checkedSays c) w n (objectCount x + 1) (early (length ts₀) (length ls₀) (length fs₀) (length ws₀) (length rs) b s (length wk₂)))
   where
     abbrev e : Early
@@ -112,7 +112,7 @@ module _
     accepted-input ok = ap accepts (sym (j .answer)) ∙ ok
 
     -- what the pass is handed
-    pub handed : a₁ ≡ noAccount → accepts (builtSays v) ≡ true → Handed x (length ts₀) (length ls₀) (length fs₀) (length ws₀) wk₂ a₁
+    pub handed : {a₁ : List (List ℕ)} → a₁ ≡ noAccount → accepts (builtSays v) ≡ true → Handed x (length ts₀) (length ls₀) (length fs₀) (length ws₀) wk₂ a₁
     handed none h =
         let ok = passed h .0 in
         let room = enough (says ! 1) w n (objectCount x + 1) e (passed h .1) in
@@ -139,7 +139,7 @@ module _
         rooted ok .front (omega (arith, room .working, ap length (rooted ok .kept))) (omega (arith, room .roots-out, rn, rooted ok .need))
 
     -- the answer, and what is left
-    module _ (edged : Edged x v r ts₀ ls₀ fs₀ ws₀ wk₂ ts ls fs ws wk a) where
+    module _ {r : Built} {ts ls fs ws wk : List ℕ} {a : List (List ℕ)} (edged : Edged x v r ts₀ ls₀ fs₀ ws₀ wk₂ ts ls fs ws wk a) where
       pass-answer : builtSays r ≡ edgesSays (builtSays v) (graph x)
       unfolding edgesSays needRoots
       pass-answer = ap builtSays (edged .answer) ∙ pass-said x v ∙ go (accepts (builtSays v)) refl
@@ -158,8 +158,8 @@ module _
       same-accepts h = go (accepts (builtSays v)) refl
         where
           go : (t : Bool) → accepts (builtSays v) ≡ t → accepts (builtSays v) ≡ true
-          go true e = e
-          go false e = absurd (true≢false (sym h ∙ ap accepts (pass-answer ∙ rw e) ∙ e))
+          go true q = q
+          go false q = absurd (true≢false (sym h ∙ ap accepts (pass-answer ∙ rw q) ∙ q))
 
       pub half : Laying x b s r ts₀ ls₀ fs₀ ws₀ rs₀ wk₀ ts ls fs ws rs wk a
       half = record {

@@ -1,10 +1,10 @@
--- `walk::stage::with_pass` meets its contract, case by case. Assumes nothing.
+-- `walk::answer::with_pass` meets its contract, case by case. Assumes nothing.
 use mathlib.Core.Path.{sym, ap}
 use Rattle.rules.specs.declared.Built.{Built}
 use Rattle.walk.specs.Stage.{withPass}
 use borrow.Author.Needs.{needs}
-use Rattle.walk.proofs.stage.with_pass.Statement.{statement}
-use Rattle.walk.proofs.stage.with_pass.Tie as tie
+use Rattle.walk.proofs.answer.with_pass.Statement.{statement}
+use Rattle.walk.proofs.answer.with_pass.Tie as tie
 
 returns : tie.Need-returns
 returns c = sym (ap (λ (b : Built). withPass b (c .before .before .before .args .q)) (c .before .v .given .1))

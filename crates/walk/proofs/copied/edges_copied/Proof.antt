@@ -1,4 +1,4 @@
--- `walk::stage::edges_copied` meets its contract: a refusal stands, and else one pass goes over all objects. Assumes nothing.
+-- `walk::copied::edges_copied` meets its contract: a refusal stands, and else one pass goes over all objects. Assumes nothing.
 use native.Mathlib.Omega.{arith}
 use mathlib.Core.Path.{sym, _∙_}
 use borrow.Author.Tests.{not-true, not-false}
@@ -7,8 +7,8 @@ use Rattle.walk.specs.Tables.{copiedInput}
 use Rattle.walk.proofs.Steps.{walked-targets, walked-labels, walked-objects, walked-weak, walked-working}
 use Rattle.walk.proofs.Stages.{handed-objects, handed-room, handed-account, edged, edged-not}
 use borrow.Author.Needs.{needs}
-use Rattle.walk.proofs.stage.edges_copied.Statement.{statement}
-use Rattle.walk.proofs.stage.edges_copied.Tie as tie
+use Rattle.walk.proofs.copied.edges_copied.Statement.{statement}
+use Rattle.walk.proofs.copied.edges_copied.Tie as tie
 
 abbrev X : tie.Start → Input
 X d = copiedInput (d .args .ids .now) (d .args .kinds .now) (d .args .classes .now) (d .args .lengths .now) (d .args .class-ids .now) (d .args .loaders .now) (d .args .dumped .now) (d .args .class-kinds .now) (d .args .slot-start .now) (d .args .slot-end .now) (d .args .static-start .now) (d .args .static-end .now) (d .args .slot-offsets .now) (d .args .slot-labels .now) (d .args .slot-weak .now) (d .args .names .now) (d .args .types .now) (d .args .values .now) (d .args .name-count) (d .args .codes .now) (d .args .escape-places .now) (d .args .escape-ids .now) (d .args .base) (d .args .starts .now) (d .args .roots .now) (d .args .policy)
