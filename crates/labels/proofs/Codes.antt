@@ -66,7 +66,7 @@ module _ (names : ℕ) (table offsets labels c₀ c : List ℕ) (law : LaidOut o
   full : length cs ≡ length labels
   full = all-length names table offsets labels law (length offsets - 1) (omega (arith, law .some)) ∙ law .ends
 
-  escaped-in : escapedTo c (length labels) ≡ escapedTo cs (length cs)
+  pub escaped-in : escapedTo c (length labels) ≡ escapedTo cs (length cs)
   escaped-in = ap (escapedTo c) (sym full) ∙ ap (λ (z : List ℕ). escapedTo z (length cs)) e ∙ escaped-over cs c₀
 
   pub room-escapes : (a l : List ℕ) → RoomFor (escapesIn cs) a l → RoomFor (length (escapedTo c (length labels))) a l

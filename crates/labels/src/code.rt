@@ -77,7 +77,7 @@ fn code_object(labels: &[u32], names: usize, table: &[u16], codes: &mut [u16])
 }
 
 // The codes of all objects. No element is carried over to the next object.
-fn code_objects(offsets: &[u64], labels: &[u32], names: usize, table: &[u16], codes: &mut [u16])
+pub fn code_objects(offsets: &[u64], labels: &[u32], names: usize, table: &[u16], codes: &mut [u16])
     requires { ⌜ Room names (now table) × LaidOut (now offsets) (length (now labels)) × (length (now labels) ≤ length (now codes)) ⌝ }
     ensures { λ _. ⌜ now (codes .exit) ≡ over (allBy names (now (table .entry)) (now (offsets .entry)) (now (labels .entry)) (length (now (offsets .entry)) - 1)) (now (codes .entry)) ⌝ }
 {
@@ -133,7 +133,7 @@ pub fn count_escapes(offsets: &[u64], labels: &[u32], names: usize, table: &[u16
 }
 
 // The escapes among the codes of the labels: the edge, and the label whole.
-fn write_escapes(
+pub fn write_escapes(
     codes: &[u16],
     labels: &[u32],
     escape_at: &mut [u64],
