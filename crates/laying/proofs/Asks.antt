@@ -88,4 +88,4 @@ module _ (x : Input) (ok : accepts (checkSays x) ≡ true) where
 
   pub roots-asked : (w : List ℕ) (m : ℕ) → w ≡ marksLeft x m → Below (objectCount x) (x .roots) × (objectCount x ≤ 2 ^ 32) × ClassMarks (objectCount x) w
   roots-asked w m e =
-      (λ i l. root-in x h i l, omega (arith, objects-few x h), λ long o l. omega (arith, mark-is x m (omega (arith, ap length e, marks-long x m)) ok e o l, mark-most x o (classCount (x .schema)), classes-few x h))
+      ((λ i l. root-in x h i l), omega (arith, objects-few x h), (λ long o l. omega (arith, mark-is x m (omega (arith, ap length e, marks-long x m)) ok e o l, mark-most x o (classCount (x .schema)), classes-few x h)))
