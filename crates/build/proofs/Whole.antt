@@ -1,26 +1,30 @@
 -- The two halves of a build are the build of the rules. Assumes nothing.
 use Prim.Native.Nat.{ℕ, suc, _+_}
 use native.Mathlib.Numerals.{add-one}
+use native.Mathlib.Omega.{arith}
 use mathlib.Core.Path.{_≡_, refl, sym, ap, _∙_}
 use mathlib.Core.Bool.{Bool, true, false, cond, true≢false}
 use mathlib.Core.List.{List, [], _∷_}
 use lib.ListN.{length, take, length-map}
 use Rattle.columns.specs.Columns.{accepts}
 use Rattle.columns.proofs.Lists.{tab-length}
+use Rattle.columns.proofs.Tests.{none-of}
 use Rattle.rules.specs.declared.Built.{Built}
 use Rattle.rules.specs.Types.{builtSays}
 use Rattle.rules.specs.Input.{Input, Schema, objectCount, classCount}
 use Rattle.rules.specs.Edges.{Parts, graph, offset, edges}
 use Rattle.rules.specs.Needs.{Lent, Rooms, shortOfParts}
-use Rattle.rules.specs.Verdict.{firstOf, at, counts}
+use Rattle.rules.specs.Verdict.{firstOf, at, counts, badLengths, badLimit, badDumped}
 use Rattle.rules.specs.Built.{CodedLeft, codedLeft, buildLeft}
-use Rattle.rules.proofs.Acceptance.{check-passed}
-use Rattle.rules.proofs.Laid.{build-meets}
+use Rattle.rules.proofs.Acceptance.{Passed}
+use Rattle.rules.proofs.Laid.{build-meets, objects-are}
+use Rattle.rules.proofs.Passes.{edges-few}
 use Rattle.rules.proofs.Used.{refused-coded}
 use Rattle.coding.specs.Stages.{handOn, Ready}
+use Rattle.coding.proofs.Readying.{ready-parts}
 use Rattle.coding.specs.Finished.{Coding, Hands, Finished, namingOf, plainCounts}
 use Rattle.stages.specs.Stages.{kept, edgeSays, early, plain, leftOf, roomsOf, Laid}
-use Rattle.stages.proofs.Compose.{built-left, edge-accepts}
+use Rattle.stages.proofs.Compose.{built-left, edge-accepts, edge-passed}
 use Rattle.laying.specs.Laying.{Laying}
 use Rattle.build.specs.Build.{offsetsUsed, labelsUsed, Rest}
 
@@ -31,6 +35,14 @@ offsets-count x = tab-length (offset x) (suc (objectCount x)) ∙ sym (add-one (
 labels-even : (x : Input) → length (graph x .targets) ≡ length (graph x .labels)
 unfolding graph
 labels-even x = length-map (edges x) _ ∙ sym (length-map (edges x) _)
+
+-- What the checks found of the input is what coding asks of its graph.
+pub graph-ready : (x : Input) → Passed x → Ready (namingOf (x .schema)) (classCount (x .schema)) (x .schema .names) (graph x .offsets) (graph x .labels)
+unfolding badLengths badLimit badDumped
+graph-ready x h =
+    let law = build-meets x h in
+    ready-parts (x .schema) (graph x) (none-of _ (h .lengths) 1) (rw (objects-are x) (none-of _ (h .limits) 0)) (λ c l. none-of _ (h .class c l) 0)
+    (omega (arith, edges-few x h, law .counted)) law
 
 -- any plain columns with these offsets and labels: of a refused build nothing more is asked
 abbrev anyParts : List ℕ → List ℕ → Parts
@@ -59,6 +71,11 @@ module _
 
     pub labels-are : length (graph x .targets) ≡ length (graph x .labels) → accepts before ≡ true → labelsUsed before ls₁ ≡ graph x .labels
     labels-are even ok = ap (λ (n : ℕ). take n ls₁) (edges-told ok ∙ even) ∙ half .laid .labels ok
+
+    pub asked : accepts before ≡ true → Ready (namingOf s) (classCount s) (s .names) (offsetsUsed (objectCount x) wk₁) (labelsUsed before ls₁)
+    asked ok =
+        rw (offsets-are ok, labels-are (labels-even x) ok)
+        (graph-ready x (edge-passed x (early (length ts₀) (length ls₀) (length fs₀) (length ws₀) (length rs₀) (l .bases) (l .short) (length wk₀)) (ap accepts (sym (half .answer)) ∙ ok)))
 
     module _ (rest : Rest (namingOf s) (classCount s) (s .names) (objectCount x) before ts₁ ls₁ fs₁ ws₁ rs₁ wk₁ a₁ l says ts ls fs ws rs wk a d) where
       abbrev offsets : List ℕ

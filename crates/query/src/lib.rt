@@ -1,4 +1,7 @@
 // The questions of `Graph`: over the used parts of a graph's columns, writing nothing.
+pub mod field;
+pub mod label;
+
 use rules::EdgeCount;
 use rules::Span;
 use rules::WeakReferents;
@@ -88,23 +91,43 @@ pub fn edge_count(
     }
 }
 
-// The targets of an object, as a part of the target column; of an object that is refused, an empty part. `span` says which.
-pub fn targets_of<'a>(
-    bases: &'a [u64],
-    short: &'a [u16],
-    long_at: &'a [u32],
-    long_value: &'a [u64],
-    codes: &'a [u16],
-    targets: &'a [u32],
-    object: usize,
-) -> &'a [u32]
-    ensures { λ r. ⌜ now r ≡ partOf (spanOf (blockedOf (now (bases .entry)) (now (short .entry)) (now («long_at» .entry)) (now («long_value» .entry))) (length (now (codes .entry))) (length (now (targets .entry))) object) (now (targets .entry)) ⌝ }
+// The targets of an object, as a part of their column, by the span that `span` gave, which says whether there is such an object. Of a refusal, or of a span that
+// is none of this column's, the part is empty.
+pub fn targets_of<'a>(targets: &'a [u32], at: Span) -> &'a [u32]
+    ensures { λ r. ⌜ now r ≡ partOf (spanSays at) (now (targets .entry)) ⌝ }
 {
-    let at = span(bases, short, long_at, long_value, codes, targets, object);
     match at {
-        Span::Edges { start, end } => &targets[start..end],
+        Span::Edges { start, end } => {
+            if end < start {
+                return &targets[0..0];
+            }
+            if targets.len() < end {
+                return &targets[0..0];
+            }
+            &targets[start..end]
+        }
         Span::Index(_) => &targets[0..0],
         Span::Columns(_) => &targets[0..0],
+    }
+}
+
+// The codes of an object, as a part of their column, by the span that `span` gave, which says whether there is such an object. Of a refusal, or of a span that
+// is none of this column's, the part is empty.
+pub fn codes_of<'a>(codes: &'a [u16], at: Span) -> &'a [u16]
+    ensures { λ r. ⌜ now r ≡ partOf (spanSays at) (now (codes .entry)) ⌝ }
+{
+    match at {
+        Span::Edges { start, end } => {
+            if end < start {
+                return &codes[0..0];
+            }
+            if codes.len() < end {
+                return &codes[0..0];
+            }
+            &codes[start..end]
+        }
+        Span::Index(_) => &codes[0..0],
+        Span::Columns(_) => &codes[0..0],
     }
 }
 

@@ -36,3 +36,25 @@ pub fn fill_columns(
     step::copy_u8(from_weak, room, weak);
     step::settle(n, room, offsets, labels, weak)
 }
+
+// The rows lent as a slice of structs, walked once.
+pub fn fill_rows(
+    rows: &[SlotRow],
+    offsets: &mut [u32],
+    labels: &mut [u32],
+    weak: &mut [u8],
+) -> Filled
+    ensures { λ r. ⌜ Filling (now (rows .entry)) (length (now (offsets .entry))) (length (now (labels .entry))) (length (now (weak .entry))) r (now (offsets .exit)) (now (labels .exit)) (now (weak .exit)) ⌝ }
+{
+    let n = rows.len();
+    let room = step::room_for(n, offsets.len(), labels.len(), weak.len());
+    let mut i = 0;
+    while i < room {
+        let r = rows[i];
+        offsets[i] = r.offset;
+        labels[i] = r.label;
+        weak[i] = r.weak;
+        i += 1;
+    }
+    step::settle(n, room, offsets, labels, weak)
+}

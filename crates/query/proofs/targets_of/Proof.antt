@@ -1,60 +1,56 @@
--- `query::targets_of` meets its contract: by the span. Assumes nothing.
+-- `query::targets_of` meets its contract: by the span, and whether it lies in the column. Assumes nothing.
 use mathlib.Core.Path.{_≡_, sym, ap, _∙_}
-use native.Mathlib.Omega.{arith}
+use Rattle.columns.specs.Lists.{allOf}
 use Rattle.columns.specs.Columns.{accepts}
+use Rattle.rules.specs.declared.Span.{Span}
 use Rattle.rules.specs.Types.{spanSays}
 use Rattle.query.specs.Reading.{partOf}
-use Rattle.query.proofs.Spans.{Inside, span-inside}
+use Rattle.query.proofs.Spans.{part-falls, part-past, part-is}
 use borrow.Author.Needs.{needs}
 use Rattle.query.proofs.targets_of.Statement.{statement}
 use Rattle.query.proofs.targets_of.Tie as tie
 
-mul-result : tie.Need-mul-result
-mul-result c =
-    omega (arith, span-inside _ _ _ _ (sym (c .before .before .before .span .ensures) ∙ ap spanSays (c .before .at .given .1)) .ordered, span-inside _ _ _ _ (sym (c .before .before .before .span .ensures) ∙ ap spanSays (c .before .at .given .1)) .targeted)
-
-sub-result : tie.Need-sub-result
-sub-result c = span-inside _ _ _ _ (sym (c .before .before .before .span .ensures) ∙ ap spanSays (c .before .at .given .1)) .ordered
-
-part-result-start : tie.Need-part-result-start
-part-result-start c = span-inside _ _ _ _ (sym (c .before .before .before .span .ensures) ∙ ap spanSays (c .before .at .given .1)) .ordered
-
-part-result-end : tie.Need-part-result-end
-part-result-end c = span-inside _ _ _ _ (sym (c .before .before .before .span .ensures) ∙ ap spanSays (c .before .at .given .1)) .targeted
-
 returns : tie.Need-returns
-unfolding partOf accepts
-returns c =
-    sym (ap (λ says. partOf says (c .before .before .before .before .before .before .before .before .before .before .before .args .targets .now)) (sym (c .before .before .before .before .span .ensures) ∙ ap spanSays (c .before .before .at .given .1)))
+returns c = sym (ap (λ (s : Span). partOf (spanSays s) (c .before .before .before .before .before .args .targets .now)) (c .before .before .before .at .given .1) ∙ part-falls _ _ _ (c .before .if1 .taken))
 
 returns-2 : tie.Need-returns-2
-unfolding partOf accepts
-returns-2 c =
-    sym (ap (λ says. partOf says (c .before .before .before .before .before .before .before .before .before .before .args .targets .now)) (sym (c .before .before .before .span .ensures) ∙ ap spanSays (c .before .enum-told .given .1)))
+returns-2 c = sym (ap (λ (s : Span). partOf (spanSays s) (c .before .before .before .before .before .before .args .targets .now)) (c .before .before .before .before .at .given .1) ∙ part-past _ _ _ (c .before .before .if1 .left) (c .before .if2 .taken))
 
 returns-3 : tie.Need-returns-3
-unfolding partOf accepts
-returns-3 c =
-    sym (ap (λ says. partOf says (c .before .before .before .before .before .before .before .before .before .before .args .targets .now)) (sym (c .before .before .before .span .ensures) ∙ ap spanSays (c .before .enum-told2 .given .1)))
+returns-3 c = sym (ap (λ (s : Span). partOf (spanSays s) (c .before .before .before .before .before .before .args .targets .now)) (c .before .before .before .before .at .given .1) ∙ part-is _ _ _ (c .before .before .if1 .left) (c .before .if2 .left))
+
+returns-4 : tie.Need-returns-4
+unfolding partOf accepts allOf
+returns-4 c = sym (ap (λ (s : Span). partOf (spanSays s) (c .before .before .before .args .targets .now)) (c .before .enum-told .given .1))
+
+returns-5 : tie.Need-returns-5
+unfolding partOf accepts allOf
+returns-5 c = sym (ap (λ (s : Span). partOf (spanSays s) (c .before .before .before .args .targets .now)) (c .before .enum-told2 .given .1))
 
 pub targets-of-spec : {M : Type 1} → statement M
 targets-of-spec =
     tie.close
     (tie.spec
-    (λ c κs. search needs)
-    (λ c. search needs)
-    mul-result
-    sub-result
-    part-result-start
-    part-result-end
-    (λ c. search needs)
-    (λ c. search needs)
-    (λ c. search needs)
-    (λ c. search needs)
     (λ c. search needs)
     (λ c. search needs)
     (λ c. search needs)
     (λ c. search needs)
     returns
+    (λ c. search needs)
+    (λ c. search needs)
+    (λ c. search needs)
     returns-2
-    returns-3)
+    (λ c. search needs)
+    (λ c. search needs)
+    (λ c. search needs)
+    (λ c. search needs)
+    (λ c. search needs)
+    (λ c. search needs)
+    (λ c. search needs)
+    (λ c. search needs)
+    (λ c. search needs)
+    (λ c. search needs)
+    (λ c. search needs)
+    returns-3
+    returns-4
+    returns-5)
