@@ -49,7 +49,7 @@ abbrev anyParts : List ℕ → List ℕ → Parts
 anyParts offsets labels = record { offsets = offsets; labels = labels; targets = []; weakFrom = []; weakTo = []; roots = []; dangling = 0 }
 
 module _
-    (x : Input) (l : Lent) (ts₀ ls₀ fs₀ ws₀ rs₀ wk₀ : List ℕ) {v : Built} {says ts₁ ls₁ fs₁ ws₁ rs₁ wk₁ ts ls fs ws rs wk : List ℕ} {a₁ a : List (List ℕ)} {d : CodedLeft}
+    (x : Input) (l : Lent) (ts₀ ls₀ fs₀ ws₀ rs₀ wk₀ : List ℕ) {v : Built} {ts₁ ls₁ fs₁ ws₁ rs₁ wk₁ : List ℕ} {a₁ : List (List ℕ)}
     (half : Laying x (l .bases) (l .short) v ts₀ ls₀ fs₀ ws₀ rs₀ wk₀ ts₁ ls₁ fs₁ ws₁ rs₁ wk₁ a₁)
   where
     abbrev s : Schema
@@ -77,7 +77,7 @@ module _
         rw (offsets-are ok, labels-are (labels-even x) ok)
         (graph-ready x (edge-passed x (early (length ts₀) (length ls₀) (length fs₀) (length ws₀) (length rs₀) (l .bases) (l .short) (length wk₀)) (ap accepts (sym (half .answer)) ∙ ok)))
 
-    module _ (rest : Rest (namingOf s) (classCount s) (s .names) (objectCount x) before ts₁ ls₁ fs₁ ws₁ rs₁ wk₁ a₁ l says ts ls fs ws rs wk a d) where
+    module _ {says ts ls fs ws rs wk : List ℕ} {a : List (List ℕ)} {d : CodedLeft} (rest : Rest (namingOf s) (classCount s) (s .names) (objectCount x) before ts₁ ls₁ fs₁ ws₁ rs₁ wk₁ a₁ l says ts ls fs ws rs wk a d) where
       abbrev offsets : List ℕ
       offsets = offsetsUsed (objectCount x) wk₁
 
@@ -88,12 +88,12 @@ module _
       of-graph : accepts before ≡ true → Finished s (graph x) before l says d
       of-graph ok =
           rest .coded s (graph x)
-          (record { named = refl; classes = refl; names = refl; offsets = sym (offsets-are ok); labels = sym (labels-are (labels-even x) ok); told = told })
+          (record { named = refl; class-count = refl; name-count = refl; laid-out = sym (offsets-are ok); labelled = sym (labels-are (labels-even x) ok); told = told })
 
       of-any : accepts before ≡ false → Finished s (anyParts offsets labels) before l says d
       of-any h =
           rest .coded s (anyParts offsets labels)
-          (record { named = refl; classes = refl; names = refl; offsets = refl; labels = refl; told = λ ok. absurd (true≢false (sym ok ∙ h)) })
+          (record { named = refl; class-count = refl; name-count = refl; laid-out = refl; labelled = refl; told = λ ok. absurd (true≢false (sym ok ∙ h)) })
 
       handed-on : accepts before ≡ false → says ≡ before
       unfolding handOn
