@@ -3,3 +3,4 @@ pub mod Narrow
 pub mod Chain
 pub mod Sound
 pub mod Join
+pub mod Theorems

@@ -29,10 +29,11 @@ use Rattle.labels.specs.Fields.{Naming, namedBy}
 use Rattle.labels.proofs.Table.{table-length}
 use Rattle.labels.proofs.Codes.{all-length, all-coded, escapes-coded}
 use Rattle.labels.proofs.Listed.{named-by, fields-named}
-use Rattle.coding.specs.Stages.{handOn, unlessShort, labelRoom, spaceShort, Where, Begins, Ready, OffsetsReady, NamesReady, fieldsBy, escapesOf}
-use Rattle.coding.specs.Stages.{offsetsSays, OffsetsCoded, fieldsSays, spaceSays, FieldsWritten, codesSays, codesAll, CodesCoded}
-use Rattle.coding.specs.Finished.{Coding, leftOf, plainCounts, Hands, Finished, usedTo, Settled}
-use Rattle.coding.proofs.Laws.{short-none, on-true, on-false, on-accepts, begins-over, refused-never, label-refuses}
+use Rattle.buffers.specs.Stages.{handOn, unlessShort, labelRoom, spaceShort, Where, Begins, Ready, OffsetsReady, NamesReady, fieldsBy, escapesOf}
+use Rattle.buffers.specs.Stages.{offsetsSays, OffsetsCoded, fieldsSays, spaceSays, FieldsWritten, codesSays, codesAll, CodesCoded}
+use Rattle.buffers.specs.Settling.{leftOf, usedTo, Settled}
+use Rattle.coding.specs.Finished.{Coding, plainCounts, Hands, Finished}
+use Rattle.buffers.proofs.Laws.{short-none, on-true, on-false, on-accepts, begins-over, refused-never, label-refuses}
 
 -- What each stage needs, of what the checks have found.
 pub ready-offsets : {g : Naming} {classes names : ℕ} {offsets labels : List ℕ} → Ready g classes names offsets labels → OffsetsReady offsets

@@ -21,7 +21,7 @@ use Rattle.rules.proofs.Meets.{Meets, isNamed}
 use Rattle.labels.specs.Coding.{own}
 use Rattle.labels.specs.Fields.{Ranges}
 use Rattle.needs.specs.Uncoded.{Labelled}
-use Rattle.coding.specs.Stages.{Ready}
+use Rattle.buffers.specs.Stages.{Ready}
 use Rattle.coding.specs.Finished.{namingOf}
 
 -- LENGTHS and CLASS: the ranges of slots and statics stand inside their columns

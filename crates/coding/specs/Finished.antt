@@ -1,37 +1,20 @@
 -- What coding answers and leaves in the eleven columns that it is lent, over the schema and the plain columns that it is handed. Assumes nothing.
-use Prim.Native.Nat.{ℕ, _+_}
+use Prim.Native.Nat.{ℕ}
 use mathlib.Core.Path.{_≡_}
-use mathlib.Core.Bool.{Bool, true, cond}
 use mathlib.Core.List.{List, [], _∷_}
 use lib.ListN.{length}
-use Rattle.columns.specs.Lists.{_!_}
-use Rattle.columns.specs.Columns.{accepts, cleared}
 use Rattle.rules.specs.Input.{Schema, classCount}
 use Rattle.rules.specs.Edges.{Parts}
 use Rattle.rules.specs.Needs.{Lent, shortOfParts}
 use Rattle.rules.specs.Verdict.{firstOf, at, counts}
 use Rattle.rules.specs.Built.{CodedLeft, codedLeft}
 use Rattle.labels.specs.Fields.{Naming, naming}
-use Rattle.coding.specs.Stages.{handOn, Where}
+use Rattle.buffers.specs.Stages.{handOn, Where}
+pub use Rattle.buffers.specs.Settling.{leftOf}
 
--- the lengths lent, and the columns as they are left, in the order of the arguments
+-- the lengths lent, in the order of the arguments
 abbrev pub lentOf : ℕ → ℕ → ℕ → ℕ → ℕ → ℕ → ℕ → ℕ → ℕ → ℕ → ℕ → Lent
 lentOf b s a v f t ea el c u k = record {
-  bases = b;
-  short = s;
-  longAt = a;
-  longValue = v;
-  fields = f;
-  table = t;
-  escapeAt = ea;
-  escapeLabel = el;
-  codes = c;
-  counting = u;
-  ranking = k;
-}
-
-abbrev pub leftOf : List ℕ → List ℕ → List ℕ → List ℕ → List ℕ → List ℕ → List ℕ → List ℕ → List ℕ → List ℕ → List ℕ → CodedLeft
-leftOf b s a v f t ea el c u k = record {
   bases = b;
   short = s;
   longAt = a;
@@ -73,21 +56,3 @@ pub record Finished (s : Schema) (p : Parts) (before : List ℕ) (l : Lent) (say
 abbrev pub Coding : Naming → ℕ → ℕ → List ℕ → List ℕ → List ℕ → Lent → List ℕ → CodedLeft → Type 0
 Coding g classes names offsets labels before l says left =
     (s : Schema) (p : Parts) → Hands s p before g classes names offsets labels → Finished s p before l says left
-
--- Where clearing starts: behind the used part where the answer accepts, else at the front.
-abbrev pub usedTo : List ℕ → ℕ → ℕ
-usedTo says n = cond (accepts says) n 0
-
--- The columns set right: each is cleared behind its used part, or whole. The blocks have zeros behind them already.
-pub record Settled (says : List ℕ) (names edges : ℕ) (l₀ : CodedLeft) (l : CodedLeft) : Type 0 where
-  pub bases : l .bases ≡ cleared (usedTo says (length (l₀ .bases))) (l₀ .bases)
-  pub short : l .short ≡ cleared (usedTo says (length (l₀ .short))) (l₀ .short)
-  pub long-at : l .longAt ≡ cleared (usedTo says (length (l₀ .longAt))) (l₀ .longAt)
-  pub long-value : l .longValue ≡ cleared (usedTo says (length (l₀ .longValue))) (l₀ .longValue)
-  pub fields : l .fields ≡ cleared (usedTo says (says ! 5)) (l₀ .fields)
-  pub table : l .table ≡ cleared (usedTo says (names + 2)) (l₀ .table)
-  pub escape-at : l .escapeAt ≡ cleared (usedTo says (says ! 6)) (l₀ .escapeAt)
-  pub escape-label : l .escapeLabel ≡ cleared (usedTo says (says ! 6)) (l₀ .escapeLabel)
-  pub codes : l .codes ≡ cleared (usedTo says edges) (l₀ .codes)
-  pub counting : l .counting ≡ cleared 0 (l₀ .counting)
-  pub ranking : l .ranking ≡ cleared 0 (l₀ .ranking)

@@ -1,11 +1,4 @@
 // Coding a plain graph's columns: offsets into blocks, labels into codes, with ROOM for buffers 4 to 9 decided in order.
-mod answers;
-mod codes;
-mod fields;
-mod offsets;
-mod settle;
-mod space;
-
 use rules::Built;
 ghost use lib.ListN.{length};
 ghost use Rattle.rules.specs.Types.{builtSays};
@@ -43,8 +36,8 @@ pub fn code_parts(
     requires { ⌜ Where (builtSays v) (Ready (naming (now «slot_starts») (now «slot_ends») (now «static_starts») (now «static_ends») (now «slot_labels») (now «static_names») (now «static_types»)) classes names (now offsets) (now labels)) ⌝ }
     ensures { λ r. ⌜ Coding (naming (now («slot_starts» .entry)) (now («slot_ends» .entry)) (now («static_starts» .entry)) (now («static_ends» .entry)) (now («slot_labels» .entry)) (now («static_names» .entry)) (now («static_types» .entry))) classes names (now (offsets .entry)) (now (labels .entry)) (builtSays v) (lentOf (length (now (bases .entry))) (length (now (short .entry))) (length (now («long_at» .entry))) (length (now («long_value» .entry))) (length (now (fields .entry))) (length (now (table .entry))) (length (now («escape_at» .entry))) (length (now («escape_label» .entry))) (length (now (codes .entry))) (length (now (counting .entry))) (length (now (ranking .entry)))) (builtSays r) (leftOf (now (bases .exit)) (now (short .exit)) (now («long_at» .exit)) (now («long_value» .exit)) (now (fields .exit)) (now (table .exit)) (now («escape_at» .exit)) (now («escape_label» .exit)) (now (codes .exit)) (now (counting .exit)) (now (ranking .exit))) ⌝ }
 {
-    let v1 = offsets::offsets_stage(v, offsets, bases, short, long_at, long_value);
-    let v2 = fields::fields_room(
+    let v1 = buffers::offsets::offsets_stage(v, offsets, bases, short, long_at, long_value);
+    let v2 = buffers::fields::fields_room(
         v1,
         classes,
         slot_starts,
@@ -59,7 +52,7 @@ pub fn code_parts(
         fields.len(),
         table,
     );
-    let v3 = space::space_room(
+    let v3 = buffers::space::space_room(
         v2,
         classes,
         slot_starts,
@@ -80,7 +73,7 @@ pub fn code_parts(
         fields,
         table,
     );
-    fields::write_fields(
+    buffers::fields::write_fields(
         v3,
         classes,
         slot_starts,
@@ -97,7 +90,7 @@ pub fn code_parts(
         counting,
         ranking,
     );
-    let r = codes::codes_stage(
+    let r = buffers::codes::codes_stage(
         v3,
         offsets,
         labels,
@@ -107,7 +100,7 @@ pub fn code_parts(
         escape_at,
         escape_label,
     );
-    settle::settle(
+    buffers::settle::settle(
         r,
         names,
         labels.len(),

@@ -2,9 +2,6 @@
 // hands its weak and missing numbers to the next pass."
 pub mod account;
 pub mod append;
-pub mod class;
-pub mod copied;
-pub mod raw;
 pub mod weak;
 
 ghost use mathlib.Core.Path.{_≡_};

@@ -1,6 +1,6 @@
 // The weak pairs by the copied route.
 use super::pair_to;
-use graph::copied::id_held;
+use held::copied::id_held;
 ghost use mathlib.Core.Path.{_≡_};
 ghost use mathlib.Core.List.{[]};
 ghost use mathlib.Core.Bool.{false};

@@ -1,6 +1,6 @@
 // The weak pairs by the raw route.
 use super::pair_to;
-use graph::raw::id_at_bytes;
+use held::raw::id_at_bytes;
 ghost use mathlib.Core.Path.{_≡_};
 ghost use mathlib.Core.List.{[]};
 ghost use mathlib.Core.Bool.{false};

@@ -1,30 +1,29 @@
--- On the columns of an accepted build each call's answer is the same question on the object's edges, and 12 is never given. Assumes nothing.
-use Prim.Native.Nat.{ℕ, zero, suc, _+_, _-_, _^_, _≤_, _<_}
+-- On the columns of an accepted build, or of an accepted `from_parts`, each call's answer is the same question on the edges, and 12 is never given. Assumes nothing.
+use Prim.Native.Nat.{ℕ, suc, _+_, _-_, _^_, _≤_, _<_}
 use native.Mathlib.Omega.{arith}
-use mathlib.Core.Path.{_≡_, refl, sym, ap, ap₂, _∙_}
+use mathlib.Core.Path.{_≡_, refl, sym, ap, _∙_}
 use mathlib.Core.Bool.{Bool, true, false, cond}
 use mathlib.Core.List.{List, [], _∷_, map}
-use lib.Dec.{eqb, ltb, leb}
+use lib.Dec.{eqb}
 use lib.ListN.{length}
-use borrow.Author.Tests.{lt-leb, leb-true}
 use Rattle.columns.specs.Lists.{_!_}
 use Rattle.columns.specs.Ranks.{rank}
 use Rattle.rules.specs.Types.{LOADER, ARRAY-ELEMENT, isElement}
 use Rattle.rules.specs.Input.{Input, Schema, objectCount}
 use Rattle.rules.specs.Edges.{Parts, Edge, edgesOf, weakTargets, offset, graph}
-use Rattle.rules.specs.Labels.{Coded, labelCode, fieldCode, codesFor, coded, expected, coarseLabel, exactLabel, named, fieldsOf}
+use Rattle.rules.specs.Labels.{Coded, fieldCode, codesFor, coded, coarseLabel, named}
 use Rattle.rules.specs.Needs.{objectsOf, fieldsFor, labelColumns}
 use Rattle.rules.specs.Parts.{degree}
-use Rattle.rules.specs.Questions.{Columns, columnsOf, coarse, asked, plainly, labelReads, readsBack, objectsIn, offsetAt, edgesIn, edgesRead, coarseIn, exactIn, labelIn, exactOf, labelOf, coarseOf, Promised}
+use Rattle.rules.specs.Questions.{Columns, columnsOf, edgesAt, weakIn, coarse, asked, plainly, labelReads, readsBack, objectsIn, offsetAt, edgesIn, edgesRead, coarseIn, exactIn, labelIn, exactOf, labelOf, Promised}
 use Rattle.rules.specs.Questions.{fieldIn as fieldOn, referentIn as referentOn}
 use Rattle.rules.proofs.Acceptance.{Passed, names-few}
-use Rattle.rules.proofs.Asked.{offset-back, objects-same}
-use Rattle.rules.proofs.Codes.{own-at, code-at, coarse-code, read-labels, label-good, fields-few}
+use Rattle.rules.proofs.Asked.{offset-back, objects-same, span-plain, count-plain, coarse-plain, exact-plain, label-plain, field-plain, weak-plain, referent-plain}
+use Rattle.rules.proofs.Codes.{own-at, code-at, coarse-code, read-labels, fields-few}
 use Rattle.rules.proofs.Finished.{all-read, edges-read, span-asked, count-asked, coarse-asked, exact-asked, label-asked, field-asked, weak-asked, referent-asked, never-12, never-12-edge}
 use Rattle.rules.proofs.Laid.{build-meets, objects-are}
 use Rattle.rules.proofs.Meets.{Meets, own}
 use Rattle.rules.proofs.Passes.{edges-few}
-use Rattle.query.specs.Reading.{spanOf, countOf, weakOf, partOf}
+use Rattle.query.specs.Reading.{countOf, weakOf, partOf}
 use Rattle.query.specs.Labelled.{spanIn, edgeOf, coarseAt, Labelled}
 use Rattle.query.specs.Sought.{fieldIn, referentIn, OneCode}
 use Rattle.query.proofs.Spans.{span-promised, count-promised, weak-promised, targets-read}
@@ -66,6 +65,63 @@ built p e f = p .answered (ap (λ (a : List ℕ). eqb (a ! 0) 12) e ∙ f) ∙ e
 abbrev pub strong : Columns → Columns
 strong c = record { offsets = c .offsets; targets = c .targets; labels = c .labels; weakFrom = []; weakTo = [] }
 
+-- Columns that meet PARTS, as `from_parts` codes them: each call's answer is the same question on the plain columns.
+module _ (s : Schema) (p : Parts) (law : Meets (s .names) p) (small : s .names ≤ LOADER) (few : length (p .labels) < 2 ^ 64) (o : ℕ) where
+  abbrev g : Columns
+  g = columnsOf s p
+
+  abbrev m : ℕ
+  m = objectsOf p
+
+  begins : (i : ℕ) → i ≤ m → offsetAt g i ≡ p .offsets ! i
+  begins i l = ap (λ (a : List ℕ). a ! 1) (offset-back s p law few i l)
+
+  reads-plain : o < m → readsBack g o ≡ true → (k : ℕ) → k < degree (p .offsets) o → labelReads (g .labels) (p .offsets ! o) k ≡ true
+  reads-plain l r k n = rw (begins o (omega arith)) at (label-reads g o r k (rw (begins o (omega arith), begins (suc o) l) n))
+
+  plain-code : o < m → readsBack g o ≡ true → OneCode (g .labels) (p .offsets ! o) (degree (p .offsets) o)
+  unfolding columnsOf labelColumns coded
+  plain-code l r k e n low inside q =
+      let reads = reads-plain l r k n in
+      coded-once s p law small o k l n reads e inside (sym (label-is s p law small o k l n reads) ∙ q)
+
+  -- Each label is coded in one way.
+  pub coded-so : o < objectsIn g → readsBack g o ≡ true → OneCode (g .labels) (offsetAt g o) (edgesIn g o)
+  coded-so l r =
+      let n : o < m = omega (arith, objects-same s p law few) in
+      rw (begins o (omega arith), begins (suc o) n) (plain-code n r)
+
+  module _ (wide : (e : ℕ) → e < length (p .labels) → p .labels ! e < 4294967296) where
+    pub span-kept : spanIn g o ≡ plainly m o (0 ∷ p .offsets ! o ∷ p .offsets ! suc o ∷ [])
+    span-kept = built (span-promised g o) (span-plain s p law few wide o) (never-12 m o _)
+
+    pub count-kept : countOf (spanIn g o) ≡ plainly m o (0 ∷ length (edgesAt p o) ∷ [])
+    count-kept = built (count-promised g o) (count-plain s p law few wide o) (never-12 m o _)
+
+    pub coarse-kept : (k : ℕ) → coarseAt (strong g) o k ≡ plainly m o (coarseIn (edgesAt p o) k)
+    unfolding coarseAt
+    coarse-kept k = built (coarse-promised g o k) (coarse-plain s p law few wide o k) (never-12-edge m o k coarse (edgesAt p o))
+
+    pub exact-kept : (k : ℕ) {says : List ℕ} → Labelled o (edgeOf (spanIn (strong g) o) k) says (exactOf (strong g) o k) → says ≡ plainly m o (exactIn (edgesAt p o) k)
+    unfolding exactOf asked readsBack edgesRead
+    exact-kept k w = built (w .promised) (exact-plain s p law few wide o k) (never-12-edge m o k (λ l. l) (edgesAt p o))
+
+    pub label-kept : (t : ℕ) {says : List ℕ} → Labelled o (spanIn (strong g) o) says (labelOf (strong g) o t) → says ≡ plainly m o (0 ∷ labelIn (edgesAt p o) t)
+    unfolding labelOf asked readsBack edgesRead
+    label-kept t w = built (w .promised) (label-plain s p law few wide o t) (never-12 m o _)
+
+    pub field-kept : (table : List ℕ) (l : ℕ) → fieldIn (strong g) table o l ≡ plainly m o (0 ∷ fieldOn (edgesAt p o) l)
+    unfolding fieldIn
+    field-kept table l = built (field-promised g table o l coded-so) (field-plain s p law few wide o l) (never-12 m o _)
+
+    module _ (even : length (p .weakFrom) ≡ length (p .weakTo)) where
+      pub weak-kept : weakOf (length (g .offsets .short)) (g .weakFrom) (g .weakTo) o ≡ plainly m o (0 ∷ rank (p .weakFrom) o ∷ rank (p .weakFrom) (suc o) ∷ [])
+      weak-kept = built (weak-promised g o) (weak-plain s p law few wide o even) (never-12 m o _)
+
+      pub referent-kept : (table : List ℕ) (l : ℕ) → referentIn g table o l ≡ plainly m o (0 ∷ referentOn (edgesAt p o) (weakIn (p .weakFrom) (p .weakTo) o) l)
+      referent-kept table l = built (referent-promised g table o l coded-so) (referent-plain s p law few wide o even l) (never-12 m o _)
+
+-- The columns of an accepted build: the same question on the object's edges, as the input gives them.
 module _ (x : Input) (h : Passed x) (o : ℕ) where
   abbrev c : Columns
   c = columnsOf (x .schema) (graph x)
@@ -103,25 +159,8 @@ module _ (x : Input) (h : Passed x) (o : ℕ) where
   pub weak-built : weakOf (length (c .offsets .short)) (c .weakFrom) (c .weakTo) o ≡ plainly n o (0 ∷ rank (graph x .weakFrom) o ∷ rank (graph x .weakFrom) (suc o) ∷ [])
   weak-built = built (weak-promised c o) (weak-asked x h o) (never-12 n o _)
 
-  -- A build codes each label in one way.
-  begins : (i : ℕ) → i ≤ n → offsetAt c i ≡ graph x .offsets ! i
-  begins i l = ap (λ (a : List ℕ). a ! 1) (offset-back (x .schema) (graph x) (build-meets x h) labels-few i (omega (arith, objects-are x)))
-
-  reads-plain : o < n → readsBack c o ≡ true → (k : ℕ) → k < degree (graph x .offsets) o → labelReads (c .labels) (graph x .offsets ! o) k ≡ true
-  reads-plain l r k m = rw (begins o (omega arith)) at (label-reads c o r k (rw (begins o (omega arith), begins (suc o) l) m))
-
-  plain-code : (l : o < n) → readsBack c o ≡ true → OneCode (c .labels) (graph x .offsets ! o) (degree (graph x .offsets) o)
-  unfolding columnsOf labelColumns coded
-  plain-code l r k e m low inside q =
-      let below : o < objectsOf (graph x) = omega (arith, objects-are x) in
-      let reads = reads-plain l r k m in
-      coded-once (x .schema) (graph x) (build-meets x h) (omega (arith, names-few x h)) o k below m reads e inside
-      (sym (label-is (x .schema) (graph x) (build-meets x h) (omega (arith, names-few x h)) o k below m reads) ∙ q)
-
   pub one-code : o < objectsIn c → readsBack c o ≡ true → OneCode (c .labels) (offsetAt c o) (edgesIn c o)
-  one-code l r =
-      let m : o < n = omega (arith, objects-built) in
-      rw (begins o (omega arith), begins (suc o) m) (plain-code m r)
+  one-code = coded-so (x .schema) (graph x) (build-meets x h) (omega (arith, names-few x h)) labels-few o
 
   pub field-built : (table : List ℕ) (l : ℕ) → fieldIn (strong c) table o l ≡ plainly n o (0 ∷ fieldOn (edgesOf x o) l)
   unfolding fieldIn

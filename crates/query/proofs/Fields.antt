@@ -1,33 +1,24 @@
 -- `field` and `referent`: which case of their definitions holds, and that on columns with one code for each label they are the rules' answers. Assumes nothing.
-use Prim.Native.Nat.{ℕ, zero, suc, _+_, _-_, _%_, _≤_, _<_}
+use Prim.Native.Nat.{ℕ, _+_, _-_, _≤_, _<_}
 use native.Mathlib.Omega.{arith}
-use mathlib.Core.Path.{_≡_, refl, sym, ap, ap₂, _∙_}
-use mathlib.Core.Bool.{Bool, true, false, cond, not, false≢true, Bool·beq}
+use mathlib.Core.Path.{_≡_, refl, sym, ap, _∙_}
+use mathlib.Core.Bool.{Bool, true, false, cond}
 use mathlib.Core.List.{List, [], _∷_}
-use mathlib.Core.Option.{Option, none, some}
-use lib.Dec.{eqb, ltb, leb}
-use lib.ListN.{length, take}
-use borrow.Author.Tests.{lt-ltb, le-ltb, ltb-true, ltb-false, le-leb, lt-leb, leb-true, leb-false, eq-eqb, ne-eqb, eqb-true, eqb-false, not-true}
-use Rattle.columns.specs.Lists.{_!_, firstPlace, allOf, find, found, lookup, part}
+use lib.Dec.{eqb, ltb}
+use lib.ListN.{length}
+use borrow.Author.Tests.{lt-ltb, le-ltb, ltb-true, le-leb, lt-leb, eq-eqb, ne-eqb, eqb-true}
+use Rattle.columns.specs.Lists.{_!_, firstPlace, allOf, found}
 use Rattle.columns.specs.Columns.{accepts}
-use Rattle.columns.specs.Ranks.{rank}
 use Rattle.columns.proofs.Tests.{each-of}
-use Rattle.rules.specs.Types.{LOADER, ARRAY-ELEMENT, isElement}
-use Rattle.rules.specs.Edges.{Edge}
-use Rattle.rules.specs.Labels.{Coded, isEscaped, exactLabel, coarseLabel}
-use Rattle.rules.specs.Questions.{Columns, coarse, asked, targetsOf, labelReads, readsBack, objectsIn, offsetAt, edgesIn, edgeAt, edgesRead, field, Promised}
-use Rattle.rules.specs.Questions.{fieldIn as fieldOn}
-use Rattle.rules.proofs.Codes.{coarse-code}
+use Rattle.rules.specs.Types.{ARRAY-ELEMENT, isElement}
+use Rattle.rules.specs.Labels.{Coded}
+use Rattle.rules.specs.Questions.{Columns}
 use Rattle.labels.specs.Reading.{coarseBack}
-use Rattle.labels.proofs.Back.{coarse-back}
 use Rattle.query.specs.declared.field.Sought.{Sought}
-use Rattle.query.specs.declared.field.Sought.the-variants.{At, Nothing, Bad}
+use Rattle.query.specs.declared.field.Sought.the-variants.{At, Nothing}
 use Rattle.query.specs.Reading.{weakOf}
 use Rattle.query.specs.Labelled.{spanIn}
-use Rattle.query.specs.Sought.{placed, elementAt, codeAt, codeBy, codeIn, stops, ifRead, decoded, soughtIn, targetOf, fieldIn, firstWeak, orWeak, referentIn, OneCode}
-use Rattle.query.proofs.Spans.{asked-reads, span-read, span-none, span-columns}
-use Rattle.query.proofs.Placed.{placed-none, placed-ext, first-ext, first-edge}
-use Rattle.query.proofs.Labels.{escapes-rise, escapes-even, label-reads}
+use Rattle.query.specs.Sought.{placed, elementAt, codeAt, codeBy, codeIn, stops, ifRead, decoded, soughtIn, targetOf, fieldIn, firstWeak, orWeak, referentIn}
 
 -- Which case of `codeBy` holds.
 module _ (fields table : List ℕ) (l s : ℕ) where

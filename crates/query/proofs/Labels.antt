@@ -6,7 +6,7 @@ use native.Mathlib.Omega.{arith}
 use mathlib.Core.Path.{_≡_, refl, sym, ap, _∙_}
 use mathlib.Core.Bool.{Bool, true, false, cond, not, false≢true}
 use mathlib.Core.List.{List, [], _∷_}
-use mathlib.Core.Option.{Option, none, some}
+use mathlib.Core.Option.{none, some}
 use borrow.Author.Tests.{lt-ltb, le-ltb, ltb-true, ltb-false, leb-false, eqb-true, not-true, not-false}
 use lib.Dec.{ltb, eqb}
 use lib.ListN.{length}
@@ -16,7 +16,7 @@ use Rattle.columns.specs.Ranks.{Rises}
 use Rattle.columns.proofs.Tests.{each-of, any-false, second-fails}
 use Rattle.store.specs.Blocked.{Blocked}
 use Rattle.rules.specs.Edges.{Edge}
-use Rattle.rules.specs.Labels.{Coded, exactLabel}
+use Rattle.rules.specs.Labels.{exactLabel}
 use Rattle.rules.specs.Verdict.{falls}
 use Rattle.rules.specs.Questions.{Columns, coarse, asked, labelAt, labelIn, labelsOf, rises, labelReads, readsBack, objectsIn, offsetAt, edgesIn, edgeAt, edgesRead, exactOf, coarseOf, labelOf, Promised}
 use Rattle.rules.proofs.Asked.{label-read}
@@ -116,6 +116,23 @@ columns-label : (o : ℕ) (ls : List ℕ) → eqb (orColumns o ls ! 0) 12 ≡ tr
 columns-label o [] e = refl
 columns-label o (l ∷ ls) e = absurd (false≢true e)
 
+labelled-columns : (place ls : List ℕ) (o : ℕ) → (eqb (place ! 0) 12 ≡ true → place ≡ 12 ∷ o ∷ []) → eqb (labelled place ls o ! 0) 12 ≡ true → labelled place ls o ≡ 12 ∷ o ∷ []
+unfolding labelled
+labelled-columns place ls o h = go (accepts place)
+  where
+    go : (t : Bool) → eqb (cond t (orColumns o ls) place ! 0) 12 ≡ true → cond t (orColumns o ls) place ≡ 12 ∷ o ∷ []
+    go true e = columns-label o ls e
+    go false e = h e
+
+edge-columns : (says : List ℕ) (k o : ℕ) → (eqb (says ! 0) 12 ≡ true → says ≡ 12 ∷ o ∷ []) → eqb (edgeOf says k ! 0) 12 ≡ true → edgeOf says k ≡ 12 ∷ o ∷ []
+unfolding edgeOf
+edge-columns says k o h = go (accepts says) (ltb k (says ! 2 - says ! 1))
+  where
+    go : (t u : Bool) → eqb (cond t (cond u says (11 ∷ k ∷ [])) says ! 0) 12 ≡ true → cond t (cond u says (11 ∷ k ∷ [])) says ≡ 12 ∷ o ∷ []
+    go true true e = h e
+    go true false e = absurd (false≢true e)
+    go false u e = h e
+
 -- Edge k by a way of reading its label, from where the object's edges begin.
 module _ (c : Columns) (o k : ℕ) (read : ℕ → List ℕ) where
   abbrev at : List ℕ
@@ -131,25 +148,7 @@ module _ (c : Columns) (o k : ℕ) (read : ℕ → List ℕ) where
 
   -- COLUMNS is given with the object
   at-columns : eqb (at ! 0) 12 ≡ true → at ≡ 12 ∷ o ∷ []
-  unfolding labelled edgeOf
-  at-columns = go (accepts (spanIn c o)) (ltb k (spanIn c o ! 2 - spanIn c o ! 1))
-    where
-      says : List ℕ
-      says = spanIn c o
-
-      ends : (place : List ℕ) → (eqb (place ! 0) 12 ≡ true → place ≡ 12 ∷ o ∷ [])
-          → eqb (cond (accepts place) (orColumns o (read (says ! 1))) place ! 0) 12 ≡ true → cond (accepts place) (orColumns o (read (says ! 1))) place ≡ 12 ∷ o ∷ []
-      ends place h = by-accepts (accepts place)
-        where
-          by-accepts : (t : Bool) → eqb (cond t (orColumns o (read (says ! 1))) place ! 0) 12 ≡ true → cond t (orColumns o (read (says ! 1))) place ≡ 12 ∷ o ∷ []
-          by-accepts true e = columns-label o (read (says ! 1)) e
-          by-accepts false e = h e
-
-      go : (t u : Bool) → eqb (cond (accepts (cond t (cond u says (11 ∷ k ∷ [])) says)) (orColumns o (read (says ! 1))) (cond t (cond u says (11 ∷ k ∷ [])) says) ! 0) 12 ≡ true
-          → cond (accepts (cond t (cond u says (11 ∷ k ∷ [])) says)) (orColumns o (read (says ! 1))) (cond t (cond u says (11 ∷ k ∷ [])) says) ≡ 12 ∷ o ∷ []
-      go true true = ends says (span-columns c o)
-      go true false = ends (11 ∷ k ∷ []) (λ e. absurd (false≢true e))
-      go false u = ends says (span-columns c o)
+  at-columns = labelled-columns (edgeOf (spanIn c o) k) (read (spanIn c o ! 1)) o (edge-columns (spanIn c o) k o (span-columns c o))
 
   at-none : objectsIn c ≤ o → at ≡ 11 ∷ o ∷ []
   unfolding labelled edgeOf accepts

@@ -17,7 +17,6 @@ use Rattle.rules.specs.Edges.{Edge}
 use Rattle.rules.specs.Labels.{Coded}
 use Rattle.rules.specs.Questions.{firstEdge}
 use Rattle.labels.specs.Reading.{coarseBack}
-use Rattle.query.specs.declared.field.Sought.{Sought}
 use Rattle.query.specs.declared.field.Sought.the-variants.{At, Nothing, Bad}
 use Rattle.query.specs.Sought.{placed, stops, decoded}
 

@@ -1,5 +1,5 @@
 -- Reading an object's edges in order, from its parts of the columns, gives each edge's target and exact label, and then the end. Assumes nothing.
-use Prim.Native.Nat.{ℕ, zero, suc, _+_, _-_, _≤_, _<_}
+use Prim.Native.Nat.{ℕ, suc, _+_, _-_, _≤_, _<_}
 use native.Mathlib.Omega.{arith}
 use mathlib.Core.Path.{_≡_, refl, sym, ap, ap₂, _∙_}
 use mathlib.Core.Logic.{⊎-elim}
@@ -13,9 +13,9 @@ use Rattle.columns.specs.Columns.{accepts}
 use Rattle.columns.specs.Ranks.{Rises}
 use Rattle.columns.proofs.Lists.{lt-or-ge}
 use Rattle.columns.proofs.Sums.{part-at, part-length}
-use Rattle.rules.specs.Labels.{Coded, readLabel, expectedAt, exactLabel}
+use Rattle.rules.specs.Labels.{Coded, expectedAt, exactLabel}
 use Rattle.rules.specs.Questions.{Columns, labelReads, readsBack, objectsIn, offsetAt, edgesIn, edgeAt}
-use Rattle.labels.specs.Reading.{codeBack, stepBack}
+use Rattle.labels.specs.Reading.{codeBack}
 use Rattle.labels.proofs.Back.{step-back}
 use Rattle.query.specs.Reading.{partOf}
 use Rattle.query.specs.Labelled.{spanIn}

@@ -2,10 +2,10 @@
 use graph::Pass;
 use graph::account;
 use graph::append;
-use graph::class;
-use graph::copied;
-use graph::raw;
 use graph::weak;
+use held::class;
+use held::copied;
+use held::raw;
 ghost use mathlib.Core.Path.{_≡_};
 ghost use Prim.Native.Nat.{_+_, _*_, _^_, _≤_, _<_};
 ghost use lib.ListN.{length};

@@ -47,6 +47,9 @@ pub(crate) const SLOT_WEAK: usize = 210;
 
 pub(crate) const STATIC_TYPES: usize = 212;
 
+// No column: nothing is damaged.
+pub(crate) const NOWHERE: usize = 300;
+
 // One entry of a column is set to another number.
 pub(crate) struct Damage {
     pub(crate) column: usize,

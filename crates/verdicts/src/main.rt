@@ -6,8 +6,8 @@ mod show;
 
 // The dump itself, by the policy, and what is left in the working column; and no dump at all.
 fn undamaged() {
-    show::left(b"as it is", 300, 0, 0, false);
-    show::left(b"keeping weak references", 300, 0, 0, true);
+    show::left(b"as it is", damage::NOWHERE, 0, 0, false);
+    show::left(b"keeping weak references", damage::NOWHERE, 0, 0, true);
     show::left(b"a root that is none", damage::ROOTS, 0, 4, false);
     show::beside(show::RAW, b"as it is", 0, 0);
     show::beside(show::BOTH, b"all columns empty", damage::CUT, 100);

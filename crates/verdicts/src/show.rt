@@ -2,6 +2,7 @@
 use crate::ask;
 use crate::damage::Damage;
 use crate::damage::ESCAPES;
+use crate::damage::NOWHERE;
 use crate::damage::Numbers;
 use crate::damage::with;
 ghost use mathlib.Core.Path.{_≡_};
@@ -77,6 +78,7 @@ pub(crate) const COPIED: u8 = 1;
 
 pub(crate) const RAW: u8 = 2;
 
+// By the copied route, unless only the raw one is asked; by the raw route, unless only the copied one is.
 fn by_codes(routes: u8, d: Damage, e: Damage, n: Numbers) {
     let neither = ReferencePolicy {
         soft: false,
@@ -151,7 +153,7 @@ pub(crate) fn two(
 // with none but another number beside the columns,
 pub(crate) fn beside(routes: u8, name: &[u8], which: u8, value: u64) {
     let d = Damage {
-        column: 300,
+        column: NOWHERE,
         entry: 0,
         to: 0,
     };

@@ -1,9 +1,11 @@
 // Cases (i) and (j): questions to the finished columns, which cases (a) to (d) give.
+use reader::NextEdge;
 use rules::ExactLabel;
 use rules::Field;
 use rules::Label;
 use rules::LabelOf;
 use rules::Referent;
+use rules::Span;
 
 fn ask_field(object: usize, label: u32) -> Field {
     query::field::field(
@@ -73,6 +75,73 @@ fn ask_label_of(object: usize, target: u32) -> LabelOf {
     )
 }
 
+fn ask_span(object: usize) -> Span {
+    query::span(
+        &[0],
+        &[0, 1, 1, 2, 4],
+        &[],
+        &[],
+        &[0, 32769, 2, 3],
+        &[1, 0, 0, 2],
+        object,
+    )
+}
+
+fn ask_edge(at: Span, object: usize, k: usize, expected: u32) -> NextEdge {
+    reader::edge_of(
+        &[1, 0, 0, 2],
+        &[0, 32769, 2, 3],
+        &[0, 1, 2, Label::LOADER],
+        &[],
+        &[],
+        at,
+        object,
+        k,
+        expected,
+    )
+}
+
+fn show_edge(answer: NextEdge) {
+    match answer {
+        NextEdge::Edge {
+            target: t,
+            label: l,
+            expected: _,
+        } => {
+            print::line(b"    object ", t as u64);
+            print::line(b"      by label ", l as u64);
+        }
+        NextEdge::End => print::word(b"    end\n"),
+        NextEdge::Index(i) => print::line(b"    refused: INDEX, 11, at ", i as u64),
+        NextEdge::Columns(o) => print::line(b"    refused: COLUMNS, 12, at ", o as u64),
+    }
+}
+
+// What an element's index is at least behind an edge.
+fn behind(edge: NextEdge) -> u32 {
+    match edge {
+        NextEdge::Edge {
+            target: _,
+            label: _,
+            expected: x,
+        } => x,
+        NextEdge::End => 0,
+        NextEdge::Index(_) => 0,
+        NextEdge::Columns(_) => 0,
+    }
+}
+
+// Three turns of the reader of an object's edges.
+fn show_edges(question: &[u8], object: usize) {
+    print::word(question);
+    let at = ask_span(object);
+    let first = ask_edge(at, object, 0, 0);
+    show_edge(first);
+    let second = ask_edge(at, object, 1, behind(first));
+    show_edge(second);
+    show_edge(ask_edge(at, object, 2, behind(second)));
+}
+
 fn show_field(question: &[u8], answer: Field) {
     print::word(question);
     match answer {
@@ -135,4 +204,8 @@ pub(crate) fn show() {
     show_label(b"  exact_label(3, 2):", ask_label(3, 2));
     show_label_of(b"  label_of(3, 2):", ask_label_of(3, 2));
     show_label_of(b"  label_of(3, 1):", ask_label_of(3, 1));
+    print::word(b"\nedges in order, through the reader\n");
+    show_edges(b"  of object 3:\n", 3);
+    show_edges(b"  of object 2:\n", 2);
+    show_edges(b"  of object 4:\n", 4);
 }

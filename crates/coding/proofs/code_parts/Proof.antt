@@ -7,8 +7,9 @@ use lib.ListN.{length}
 use Rattle.rules.specs.Types.{builtSays}
 use Rattle.rules.specs.Needs.{Lent}
 use Rattle.labels.specs.Fields.{Naming, naming}
-use Rattle.coding.specs.Stages.{Where, Ready, OffsetsCoded, fieldsBy, escapesOf, fieldsSays, spaceSays, FieldsWritten, CodesCoded}
-use Rattle.coding.specs.Finished.{Coding, lentOf, leftOf, Settled}
+use Rattle.buffers.specs.Stages.{Where, Ready, OffsetsCoded, fieldsBy, escapesOf, fieldsSays, spaceSays, FieldsWritten, CodesCoded}
+use Rattle.buffers.specs.Settling.{leftOf, Settled}
+use Rattle.coding.specs.Finished.{Coding, lentOf}
 use Rattle.coding.proofs.Compose.{ready-offsets, ready-names, offsets-before, fields-before, space-before, codes-before, coded-whole}
 use borrow.Author.Needs.{needs}
 use Rattle.coding.proofs.code_parts.Statement.{statement}

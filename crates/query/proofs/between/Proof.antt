@@ -1,7 +1,7 @@
 -- `query::between` meets its contract: by the two answers. Assumes nothing.
-use mathlib.Core.Path.{_≡_, sym, ap, _∙_}
+use mathlib.Core.Path.{sym, ap, _∙_}
 use mathlib.Core.List.{[], _∷_}
-use Rattle.columns.specs.Lists.{_!_, allOf}
+use Rattle.columns.specs.Lists.{allOf}
 use Rattle.columns.specs.Columns.{accepts}
 use Rattle.store.specs.Blocked.{offsetSays}
 use Rattle.query.specs.Reading.{ended}

@@ -1,5 +1,5 @@
 -- `query::codes_of` meets its contract: by the span, and whether it lies in the column. Assumes nothing.
-use mathlib.Core.Path.{_≡_, sym, ap, _∙_}
+use mathlib.Core.Path.{sym, ap, _∙_}
 use Rattle.columns.specs.Lists.{allOf}
 use Rattle.columns.specs.Columns.{accepts}
 use Rattle.rules.specs.declared.Span.{Span}

@@ -1,5 +1,5 @@
 -- `query::edge_count` meets its contract: by the span. Assumes nothing.
-use mathlib.Core.Path.{_≡_, sym, ap, _∙_}
+use mathlib.Core.Path.{sym, ap, _∙_}
 use Rattle.columns.specs.Columns.{accepts}
 use Rattle.rules.specs.Types.{spanSays}
 use Rattle.query.specs.Reading.{countOf}

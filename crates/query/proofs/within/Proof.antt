@@ -1,10 +1,8 @@
 -- `query::within` meets its contract: at each return the tests that led there say which case of `ended` holds. Assumes nothing.
-use Prim.Native.Nat.{_≤_}
 use borrow.Author.Tests.{le-leb, lt-leb}
 use Rattle.columns.specs.Lists.{allOf}
 use Rattle.columns.specs.Columns.{accepts}
 use Rattle.query.specs.Reading.{ended}
-use borrow.Author.Needs.{needs}
 use Rattle.query.proofs.within.Statement.{statement}
 use Rattle.query.proofs.within.Tie as tie
 

@@ -1,5 +1,5 @@
 -- `reader::edge_of` meets its contract: by the span, and what stands in the object's parts. Assumes nothing.
-use mathlib.Core.Path.{_≡_, sym, ap, _∙_}
+use mathlib.Core.Path.{sym, ap, _∙_}
 use Rattle.columns.specs.Columns.{accepts}
 use Rattle.rules.specs.declared.Span.{Span}
 use Rattle.rules.specs.Types.{spanSays}

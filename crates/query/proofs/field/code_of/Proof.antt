@@ -1,5 +1,5 @@
 -- `query::field::code_of` meets its contract: at each return the tests that led there say which case of `codeBy` holds. Assumes nothing.
-use mathlib.Core.Path.{_≡_, ap, _∙_}
+use mathlib.Core.Path.{ap, _∙_}
 use Rattle.query.specs.Sought.{codeBy}
 use Rattle.query.proofs.Fields.{code-past, code-escaped, code-outside, code-other, code-is}
 use borrow.Author.Needs.{needs}

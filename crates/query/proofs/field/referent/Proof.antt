@@ -1,5 +1,5 @@
 -- `query::field::referent` meets its contract: by the field, then the weak pairs. Assumes nothing.
-use mathlib.Core.Path.{_≡_, refl, sym, ap, _∙_}
+use mathlib.Core.Path.{refl, sym, ap, _∙_}
 use Rattle.columns.specs.Columns.{accepts}
 use Rattle.rules.specs.Types.{fieldSays}
 use Rattle.query.specs.Sought.{fieldIn}

@@ -1,5 +1,5 @@
 -- `query::field::seek` meets its contract: at each return the tests that led there say which case of `soughtIn` holds. Assumes nothing.
-use mathlib.Core.Path.{_≡_, _∙_}
+use mathlib.Core.Path.{_∙_}
 use Rattle.labels.specs.Reading.{codedOf}
 use Rattle.query.proofs.Fields.{sought-element, sought-other, sought-decoded, sought-coded}
 use borrow.Author.Needs.{needs}

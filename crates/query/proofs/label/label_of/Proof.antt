@@ -1,5 +1,5 @@
 -- `query::label::label_of` meets its contract: by the span, and the first edge to the target. Assumes nothing.
-use mathlib.Core.Path.{_≡_, refl, sym, ap, _∙_}
+use mathlib.Core.Path.{refl, sym, ap, _∙_}
 use native.Mathlib.Omega.{arith}
 use Rattle.columns.specs.Columns.{accepts}
 use Rattle.rules.specs.Types.{spanSays}

@@ -1,6 +1,5 @@
 -- `query::label::with_edge` meets its contract: at each return the tests that led there say which case of `edgeOf` holds. Assumes nothing.
-use mathlib.Core.Path.{_≡_, sym, ap, _∙_}
-use mathlib.Core.List.{[], _∷_}
+use mathlib.Core.Path.{sym, ap, _∙_}
 use Rattle.columns.specs.Columns.{accepts}
 use Rattle.rules.specs.declared.Span.{Span}
 use Rattle.rules.specs.Types.{spanSays}

@@ -1,0 +1,65 @@
+-- `held::copied::elements` meets its contract: the first k elements are appended. Assumes nothing.
+use Prim.Native.Nat.{_≤_, _-_}
+use native.Mathlib.Omega.{arith}
+use Rattle.columns.specs.Lists.{tab}
+use Rattle.index.specs.Copied.{idsOf}
+use Rattle.graph.specs.Held.{copiedElement}
+use Rattle.graph.proofs.Reading.{copied-element}
+use Rattle.graph.specs.Append.{Appended}
+use Rattle.graph.proofs.Appending.{tab-none, tab-more, tab-room, tab-end, same-targets, same-labels, same-weak}
+use borrow.Author.Needs.{needs}
+use Rattle.held.proofs.copied.elements.Statement.{statement}
+use Rattle.held.proofs.copied.elements.Tie as tie
+
+abbrev Inv-loop : tie.InvT-loop
+Inv-loop ids codes escape-places escape-ids base start count guess targets₀ labels₀ weak₀ s₀ k₀ targets labels weak s k = (k ≤ count) × Appended ids (tab (copiedElement (idsOf codes escape-places escape-ids base) start) k) s₀ s targets₀ labels₀ weak₀ targets labels weak
+
+abbrev μ-loop : tie.MeasureT-loop
+μ-loop ids codes escape-places escape-ids base start count guess targets₀ labels₀ weak₀ s₀ k₀ targets labels weak s k = count - k
+
+loop-holds : tie.Need-loop-holds Inv-loop μ-loop
+loop-holds c = (search needs, tab-none _)
+
+append-element-requires : tie.Need-append-element-requires Inv-loop μ-loop
+append-element-requires c κs =
+    let a = c .before .before .before .before .before .before .before .before .before .before .before .before .before .args in
+    let e = copied-element (idsOf (a .codes .now) (a .escape-places .now) (a .escape-ids .now) (a .base)) (a .start) (c .before .before .before .before .before .loop .k) (c .before .before .before .id-held .ensures) in
+    (search needs, tab-room (copiedElement (idsOf (a .codes .now) (a .escape-places .now) (a .escape-ids .now) (a .base)) (a .start)) (c .before .before .before .before .before .loop .k) (c .before .before .before .before .before .loop .inv .1) e (a .count) (c .before .before .before .before .loop-test .taken) (c .before .before .before .before .before .before .before .before .before .before .before .before .before .pre .1))
+
+loop-again : tie.Need-loop-again Inv-loop μ-loop
+loop-again c =
+    let a = c .before .before .before .before .before .before .before .before .before .before .before .before .before .before .before .before .before .before .before .before .args in
+    let e = copied-element (idsOf (a .codes .now) (a .escape-places .now) (a .escape-ids .now) (a .base)) (a .start) (c .before .before .before .before .before .before .before .before .before .before .before .before .loop .k) (c .before .before .before .before .before .before .before .before .before .before .id-held .ensures) in
+    (search needs, tab-more (copiedElement (idsOf (a .codes .now) (a .escape-places .now) (a .escape-ids .now) (a .base)) (a .start)) (c .before .before .before .before .before .before .before .before .before .before .before .before .loop .k) (c .before .before .before .before .before .before .before .before .before .before .before .before .loop .inv .1) e (c .before .before .before .before .before .before .append-element .ensures))
+
+same-length : tie.Need-same-length Inv-loop μ-loop
+same-length c = same-targets (c .before .loop .inv .1)
+
+same-length-2 : tie.Need-same-length-2 Inv-loop μ-loop
+same-length-2 c = same-labels (c .before .loop .inv .1)
+
+same-length-3 : tie.Need-same-length-3 Inv-loop μ-loop
+same-length-3 c = same-weak (c .before .loop .inv .1)
+
+returns : tie.Need-returns Inv-loop μ-loop
+returns c =
+    let a = c .before .before .before .before .before .before .before .before .before .args in
+    tab-end (copiedElement (idsOf (a .codes .now) (a .escape-places .now) (a .escape-ids .now) (a .base)) (a .start)) (c .before .loop .k) (a .count) (omega arith) (c .before .loop .inv .1)
+
+pub elements-spec : {M : Type 1} → statement M
+elements-spec =
+    tie.close
+    (tie.spec
+    Inv-loop
+    μ-loop
+    loop-holds
+    (λ c. search needs)
+    (λ c κs. search needs)
+    append-element-requires
+    (λ c. search needs)
+    (λ c. search needs)
+    loop-again
+    same-length
+    same-length-2
+    same-length-3
+    returns)
