@@ -1,5 +1,5 @@
 -- Answers: which buffer is short, what a stage hands on, and what each stage's answer comes to case by case. Assumes nothing.
-use Prim.Native.Nat.{ℕ, zero, suc, _+_, _-_, _*_, _/_, _≤_, _<_}
+use Prim.Native.Nat.{ℕ, _+_, _-_, _*_, _/_, _≤_, _<_}
 use native.Mathlib.Omega.{arith}
 use mathlib.Core.Path.{_≡_, refl, sym, ap, _∙_}
 use mathlib.Core.Bool.{Bool, true, false, cond, _||_, true≢false}
@@ -8,20 +8,19 @@ use lib.Dec.{ltb}
 use lib.ListN.{length, set, getD, take, drop}
 use borrow.Author.Tests.{lt-ltb, le-ltb, ltb-false}
 use lib.Seq.{take-at}
-use Rattle.columns.specs.Lists.{_!_, anyOf, firstPlace}
-use Rattle.columns.specs.Columns.{accepts, over, padded, leaves}
-use Rattle.columns.specs.Ranks.{Climbs}
+use Rattle.columns.specs.Lists.{_!_, anyOf}
+use Rattle.columns.specs.Columns.{accepts, over, leaves}
 use Rattle.columns.proofs.Parts.{never-falls}
 use Rattle.columns.proofs.Tests.{no-places, none-of}
 use Rattle.store.specs.declared.CodedOffsets.{CodedOffsets}
-use Rattle.store.specs.Blocked.{codedSays, codingSays, Coding, Filled, isLow, firstLow, blocksOf, longRows, blocked}
+use Rattle.store.specs.Blocked.{codedSays, codingSays, Coding, isLow, firstLow, blocksOf, longRows}
 use Rattle.rules.specs.declared.Refusal.{Refusal}
 use Rattle.rules.specs.declared.Counts.{Counts}
 use Rattle.rules.specs.declared.Built.{Built}
 use Rattle.rules.specs.declared.Built.the-variants.{Done, Refused}
 use Rattle.rules.specs.Types.{refusalSays, builtSays, LOADER}
 use Rattle.rules.proofs.Types.{refusal-refuses}
-use Rattle.labels.specs.Coding.{LaidOut, escapesIn, escapedTo, Escapes, CodesLaid}
+use Rattle.labels.specs.Coding.{LaidOut, escapesIn, escapedTo, Escapes}
 use Rattle.labels.proofs.Codes.{escaped-in, codes-laid}
 use Rattle.labels.proofs.Escapes.{escapes-places}
 use Rattle.buffers.specs.Stages.{handOn, unlessShort, labelRoom, spaceShort, OffsetsReady, offsetsSays, OffsetsCoded, fieldsSays, spaceSays, codesSays}

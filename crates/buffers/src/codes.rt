@@ -7,7 +7,7 @@ ghost use mathlib.Core.Path.{_≡_};
 ghost use lib.ListN.{length};
 ghost use Prim.Native.Nat.{_≤_};
 ghost use Rattle.rules.specs.Types.{builtSays};
-ghost use Rattle.labels.specs.Coding.{Room, LaidOut, escapedTo};
+ghost use Rattle.labels.specs.Coding.{escapedTo};
 ghost use Rattle.buffers.specs.Stages.{Where, CodesReady, CodesCoded};
 
 // How many of the first n codes are escaped: two bytes an edge.

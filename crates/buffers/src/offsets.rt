@@ -2,9 +2,7 @@
 use crate::answers;
 use rules::Built;
 ghost use lib.ListN.{length};
-ghost use Prim.Native.Nat.{_≤_};
 ghost use Rattle.rules.specs.Types.{builtSays};
-ghost use Rattle.labels.specs.Coding.{LaidOut};
 ghost use Rattle.buffers.specs.Stages.{Where, OffsetsReady, OffsetsCoded};
 
 pub fn offsets_stage(

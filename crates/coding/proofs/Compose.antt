@@ -20,16 +20,16 @@ use Rattle.rules.specs.Types.{LOADER}
 use Rattle.rules.specs.Input.{Schema, classCount}
 use Rattle.rules.specs.Edges.{Parts}
 use Rattle.rules.specs.Labels.{named, fieldsOf, codeTable, codesFor, coded}
-use Rattle.rules.specs.Needs.{Lent, objectsOf, fieldsFor, labelColumns, needLong, needFields, needEscapes, shortLater, shortOfParts}
+use Rattle.rules.specs.Needs.{Lent, fieldsFor, labelColumns, needLong, needFields, needEscapes, shortLater, shortOfParts}
 use Rattle.rules.specs.Verdict.{firstOf, at, counts}
-use Rattle.rules.specs.Built.{CodedLeft, codedLeft}
+use Rattle.rules.specs.Built.{codedLeft}
 use Rattle.rules.proofs.Acceptance.{refuse-at}
 use Rattle.labels.specs.Coding.{LaidOut, TableOf, Laid, escapesIn}
 use Rattle.labels.specs.Fields.{Naming, namedBy}
 use Rattle.labels.proofs.Table.{table-length}
 use Rattle.labels.proofs.Codes.{all-length, all-coded, escapes-coded}
 use Rattle.labels.proofs.Listed.{named-by, fields-named}
-use Rattle.buffers.specs.Stages.{handOn, unlessShort, labelRoom, spaceShort, Where, Begins, Ready, OffsetsReady, NamesReady, fieldsBy, escapesOf}
+use Rattle.buffers.specs.Stages.{handOn, labelRoom, spaceShort, Where, Begins, Ready, OffsetsReady, NamesReady, fieldsBy, escapesOf}
 use Rattle.buffers.specs.Stages.{offsetsSays, OffsetsCoded, fieldsSays, spaceSays, FieldsWritten, codesSays, codesAll, CodesCoded}
 use Rattle.buffers.specs.Settling.{leftOf, usedTo, Settled}
 use Rattle.coding.specs.Finished.{Coding, plainCounts, Hands, Finished}

@@ -6,8 +6,8 @@ ghost use Rattle.labels.specs.Fields.{naming};
 ghost use Rattle.coding.specs.Stages.{Where, Ready};
 ghost use Rattle.coding.specs.Finished.{lentOf, leftOf, Coding};
 
-// The coded columns of the plain graph whose offsets and labels these are. A refusal is handed on; an acceptance, with nothing coded yet, takes the numbers of long offsets, fields and escapes,
-// or turns into ROOM. After a refusal all eleven columns are zero.
+// The coded columns of the plain graph whose offsets and labels these are. A refusal is handed on; an acceptance, with nothing coded yet, takes the
+// numbers of long offsets, fields and escapes, or turns into ROOM. After a refusal all eleven columns are zero.
 pub fn code_parts(
     v: Built,
     classes: usize,

@@ -1,10 +1,10 @@
 -- The contract of `from_parts` allows one outcome; and what it makes of an accepted build's plain columns is what the build left. Assumes nothing.
-use Prim.Native.Nat.{ℕ, _≤_}
+use Prim.Native.Nat.{ℕ}
 use native.Mathlib.Omega.{arith}
 use mathlib.Core.Path.{_≡_, refl, sym, ap, _∙_}
-use mathlib.Core.Bool.{Bool, true, false, cond, not}
+use mathlib.Core.Bool.{Bool, true, false}
 use mathlib.Core.List.{List, [], _∷_, _++_}
-use lib.Dec.{eqb, ltb}
+use lib.Dec.{ltb}
 use lib.ListN.{length, length-map}
 use borrow.Author.Tests.{eq-eqb, le-ltb}
 use Rattle.columns.specs.Lists.{anyOf, places}
@@ -15,8 +15,8 @@ use Rattle.rules.specs.Types.{builtSays}
 use Rattle.rules.specs.Input.{Input, Schema, classCount}
 use Rattle.rules.specs.Edges.{Parts, graph, weakPairs}
 use Rattle.rules.specs.Needs.{Lent, Rooms, buffer, objectsOf, needPlaces, needWeak, needRoots, needBases, needOffsets, shortLater, shortOfBuild, shortOfParts}
-use Rattle.rules.specs.Verdict.{firstOf, at, once, differs, schemaLengths, overLimit, badLengths, badLimit, badClass, badDumped, overPlaces, counts, buildSays}
-use Rattle.rules.specs.Parts.{partsFaults, handedFaults, partsSays}
+use Rattle.rules.specs.Verdict.{at, differs, schemaLengths, overLimit, badLengths, badLimit, badClass, badDumped, overPlaces, buildSays}
+use Rattle.rules.specs.Parts.{handedFaults, partsSays}
 use Rattle.rules.specs.Built.{CodedLeft, codedLeft, PartsLeft, buildLeft, partsLeft}
 use Rattle.rules.proofs.Types.{one-built}
 use Rattle.rules.proofs.Acceptance.{Passed, build-passed, build-room, build-says}

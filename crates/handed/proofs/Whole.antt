@@ -2,7 +2,7 @@
 use Prim.Native.Nat.{ℕ}
 use mathlib.Core.Path.{_≡_, refl, sym, ap, ap₂, _∙_}
 use mathlib.Core.Bool.{Bool, true, false, cond, true≢false}
-use mathlib.Core.List.{List, [], _∷_, _++_}
+use mathlib.Core.List.{List, [], _∷_}
 use lib.ListN.{length}
 use Rattle.columns.specs.Lists.{_!_}
 use Rattle.columns.specs.Columns.{accepts}
@@ -14,12 +14,12 @@ use Rattle.rules.specs.Edges.{Parts}
 use Rattle.rules.specs.Needs.{Lent, shortOfParts}
 use Rattle.rules.specs.Verdict.{firstOf, at, counts}
 use Rattle.rules.specs.Parts.{partsFaults, handedFaults, handedSays, partsSays}
-use Rattle.rules.specs.Built.{CodedLeft, codedLeft, PartsLeft, partsLeft}
+use Rattle.rules.specs.Built.{CodedLeft, codedLeft, partsLeft}
 use Rattle.rules.proofs.First.{first-append}
 use Rattle.rules.proofs.Handed.{handed-passed, handed-refuse}
 use Rattle.parts.specs.Checks.{handed}
 use Rattle.coding.specs.Stages.{handOn, Where, Ready}
-use Rattle.coding.specs.Finished.{namingOf, plainCounts, Hands, Finished, Coding}
+use Rattle.coding.specs.Finished.{namingOf, plainCounts, Finished, Coding}
 use Rattle.buffers.proofs.Laws.{on-true, on-false}
 use Rattle.coding.proofs.Readying.{ready-parts}
 use Rattle.handed.specs.Parts.{partsOf, leftAs, countedSays}

@@ -11,7 +11,6 @@ use Rattle.buffers.specs.Stages.{Where, Ready, OffsetsCoded, fieldsBy, escapesO
 use Rattle.buffers.specs.Settling.{leftOf, Settled}
 use Rattle.coding.specs.Finished.{Coding, lentOf}
 use Rattle.coding.proofs.Compose.{ready-offsets, ready-names, offsets-before, fields-before, space-before, codes-before, coded-whole}
-use borrow.Author.Needs.{needs}
 use Rattle.coding.proofs.code_parts.Statement.{statement}
 use Rattle.coding.proofs.code_parts.Tie as tie
 

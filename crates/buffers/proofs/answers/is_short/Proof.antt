@@ -2,7 +2,6 @@
 use native.Mathlib.Omega.{arith}
 use mathlib.Core.Path.{sym}
 use Rattle.buffers.proofs.Laws.{short-first, short-second}
-use borrow.Author.Needs.{needs}
 use Rattle.buffers.proofs.answers.is_short.Statement.{statement}
 use Rattle.buffers.proofs.answers.is_short.Tie as tie
 

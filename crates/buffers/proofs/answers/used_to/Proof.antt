@@ -1,7 +1,6 @@
 -- `buffers::answers::used_to` meets its contract: the length, or 0. Assumes nothing.
-use mathlib.Core.Path.{_≡_, sym, ap, _∙_}
-use mathlib.Core.Bool.{Bool, cond, true, false}
-use Prim.Native.Nat.{ℕ}
+use mathlib.Core.Path.{sym, ap, _∙_}
+use mathlib.Core.Bool.{Bool, cond}
 use borrow.Author.Needs.{needs}
 use Rattle.buffers.proofs.answers.used_to.Statement.{statement}
 use Rattle.buffers.proofs.answers.used_to.Tie as tie

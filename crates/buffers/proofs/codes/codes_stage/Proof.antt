@@ -2,15 +2,15 @@
 use mathlib.Core.Path.{_≡_, refl, sym, ap, _∙_}
 use native.Mathlib.Omega.{arith}
 use mathlib.Core.Bool.{true, false}
-use mathlib.Core.List.{List, [], _∷_}
-use Prim.Native.Nat.{ℕ, _<_, _≤_}
+use mathlib.Core.List.{[], _∷_}
+use Prim.Native.Nat.{ℕ, _<_}
 use lib.Dec.{ltb}
 use lib.ListN.{length, set}
 use Rattle.columns.specs.Lists.{anyOf}
 use Rattle.columns.specs.Columns.{accepts}
 use Rattle.rules.specs.declared.Built.{Built}
 use Rattle.rules.specs.Types.{builtSays}
-use Rattle.labels.specs.Coding.{escapesIn, escapedTo}
+use Rattle.labels.specs.Coding.{escapesIn}
 use Rattle.buffers.specs.Stages.{codesAll, labelRoom}
 use Rattle.buffers.proofs.Laws.{accepts-done, accepts-refused, label-refuses, label-codes-short, label-escapes-short, codes-handed, codes-short, codes-rows, codes-coded, short-none}
 use borrow.Author.Needs.{needs}

@@ -3,7 +3,7 @@ use mathlib.Core.Path.{_≡_, refl, ap, _∙_}
 use Prim.Native.Nat.{ℕ, _≤_, _-_}
 use native.Mathlib.Omega.{arith}
 use borrow.Author.Tests.{eq-eqb, ne-eqb}
-use lib.ListN.{length, getD}
+use lib.ListN.{length}
 use Rattle.columns.specs.Lists.{places}
 use Rattle.columns.proofs.Lists.{count-hit, count-miss}
 use Rattle.labels.specs.Coding.{escapedTo}

@@ -1,7 +1,7 @@
 -- `buffers::fields::fields_room` meets its contract. A refusal is handed on; else either column may be short. Assumes nothing.
-use mathlib.Core.Path.{_≡_, sym, ap, _∙_}
+use mathlib.Core.Path.{sym, ap, _∙_}
 use native.Mathlib.Omega.{arith}
-use Prim.Native.Nat.{ℕ, _+_}
+use Prim.Native.Nat.{ℕ}
 use mathlib.Core.List.{List}
 use lib.ListN.{length, set}
 use Rattle.rules.specs.declared.Built.{Built}

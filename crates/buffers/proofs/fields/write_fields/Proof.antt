@@ -1,10 +1,8 @@
 -- `buffers::fields::write_fields` meets its contract. The fields are those of the rules, and the table is theirs. Assumes nothing.
-use mathlib.Core.Path.{_≡_, sym, ap, _∙_}
+use mathlib.Core.Path.{sym, _∙_}
 use native.Mathlib.Omega.{arith}
-use Prim.Native.Nat.{ℕ, _+_, _≤_}
+use Prim.Native.Nat.{ℕ, _≤_}
 use mathlib.Core.List.{List}
-use lib.ListN.{length, set}
-use Rattle.rules.specs.declared.Built.{Built}
 use Rattle.rules.specs.Types.{builtSays}
 use Rattle.labels.specs.Fields.{naming}
 use Rattle.buffers.specs.Stages.{fieldsBy}

@@ -1,5 +1,5 @@
 -- `buffers::space::escapes_without` meets its contract. Few fields are listed by marks; of more the escapes are counted by layers. Assumes nothing.
-use mathlib.Core.Path.{_≡_, refl, ap, _∙_}
+use mathlib.Core.Path.{refl, ap, _∙_}
 use native.Mathlib.Omega.{arith}
 use mathlib.Core.List.{List}
 use Prim.Native.Nat.{ℕ, _≤_}
