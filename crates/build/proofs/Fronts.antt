@@ -10,7 +10,7 @@ use Rattle.columns.proofs.Lists.{lt-or-ge}
 use Rattle.rules.specs.Needs.{Lent}
 use Rattle.rules.specs.Built.{CodedLeft}
 use Rattle.labels.specs.Fields.{Naming}
-use Rattle.coding.specs.Stages.{Ready}
+use Rattle.buffers.specs.Stages.{Ready}
 use Rattle.coding.specs.Finished.{Coding, Hands, Finished}
 
 -- as many as there are, or all

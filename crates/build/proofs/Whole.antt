@@ -20,7 +20,7 @@ use Rattle.rules.proofs.Acceptance.{Passed}
 use Rattle.rules.proofs.Laid.{build-meets, objects-are}
 use Rattle.rules.proofs.Passes.{edges-few}
 use Rattle.rules.proofs.Used.{refused-coded}
-use Rattle.coding.specs.Stages.{handOn, Ready}
+use Rattle.buffers.specs.Stages.{handOn, Ready}
 use Rattle.coding.proofs.Readying.{ready-parts}
 use Rattle.coding.specs.Finished.{Coding, Hands, Finished, namingOf, plainCounts}
 use Rattle.stages.specs.Stages.{kept, edgeSays, early, plain, leftOf, roomsOf, Laid}
