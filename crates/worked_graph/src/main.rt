@@ -1,6 +1,6 @@
 // The worked dump of document 01, built by both routes and with both id sizes; then with each buffer exactly full, and one short.
 mod copied;
-mod handed;
+mod plain;
 mod raw;
 mod rooms;
 mod show;
@@ -27,9 +27,9 @@ fn main() {
     raw::run_8(1);
     raw::run_8(2);
     print::word(b"\nits plain columns handed over\n");
-    handed::run(2147483647, 0);
+    plain::run(2147483647, 0);
     print::word(b"\nwith a label that no name has, and without room\n");
-    handed::run(3, 0);
-    handed::run(2147483647, 4);
-    handed::run(2147483647, 8);
+    plain::run(3, 0);
+    plain::run(2147483647, 4);
+    plain::run(2147483647, 8);
 }
