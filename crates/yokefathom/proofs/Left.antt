@@ -1,0 +1,19 @@
+-- What a call left, told. Assumes nothing.
+use Prim.Native.Nat.{ℕ}
+use mathlib.Core.Path.{_≡_, sym, ap, _∙_}
+use mathlib.Core.List.{List}
+use Rattle.rules.specs.Built.{CodedLeft, BuildLeft, PartsLeft}
+use Rattle.stages.specs.Stages.{leftOf}
+use Rattle.handed.specs.Parts.{leftAs}
+use Rattle.told.specs.Told.{told}
+use Rattle.yokefathom.specs.Calls.{BuildTold, PartsTold}
+
+pub build-told : {left : BuildLeft} {says answer ts ls fs ws rs wk : List ℕ} {coded : CodedLeft} {a : List (List ℕ)} → answer ≡ told 9 says → leftOf says ts ls fs ws rs wk coded a ≡ left → BuildTold left answer ts ls fs ws rs wk coded a
+build-told {left} {says} {answer} {ts} {ls} {fs} {ws} {rs} {wk} {coded} {a} e l =
+    let said : says ≡ left .says = ap (λ (b : BuildLeft). b .says) l in
+    record { told-as = e ∙ ap (told 9) said; columns = ap (λ (s : List ℕ). leftOf s ts ls fs ws rs wk coded a) (sym said) ∙ l }
+
+pub parts-told : {left : PartsLeft} {says answer : List ℕ} {coded : CodedLeft} → answer ≡ told 9 says → leftAs says coded ≡ left → PartsTold left answer coded
+parts-told {left} {says} {answer} {coded} e l =
+    let said : says ≡ left .says = ap (λ (b : PartsLeft). b .says) l in
+    record { told-as = e ∙ ap (told 9) said; columns = ap (λ (s : List ℕ). leftAs s coded) (sym said) ∙ l }

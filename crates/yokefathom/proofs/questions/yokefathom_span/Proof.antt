@@ -1,0 +1,12 @@
+-- `yokefathom::questions::yokefathom_span` meets its contract. Assumes nothing.
+use mathlib.Core.Path.{ap, _∙_}
+use Rattle.told.specs.Told.{told}
+use borrow.Author.Needs.{needs}
+use Rattle.yokefathom.proofs.questions.yokefathom_span.Statement.{statement}
+use Rattle.yokefathom.proofs.questions.yokefathom_span.Tie as tie
+
+returns : tie.Need-returns
+returns c = c .span2 .ensures ∙ ap (told 4) (c .before .span .ensures)
+
+pub yokefathom-span-spec : {M : Type 1} → statement M
+yokefathom-span-spec = tie.close (tie.spec (λ c κs. search needs) (λ c κs. search needs) returns)

@@ -1,0 +1,30 @@
+-- What an exported call leaves: what the call that it is named after leaves, with the answer as numbers. Assumes nothing.
+use Prim.Native.Nat.{ℕ}
+use mathlib.Core.Path.{_≡_}
+use mathlib.Core.Bool.{Bool}
+use mathlib.Core.List.{List}
+use lib.ListN.{take, drop}
+use Rattle.columns.specs.Lists.{_!_}
+use Rattle.rules.specs.declared.ReferencePolicy.{ReferencePolicy}
+use Rattle.rules.specs.Built.{CodedLeft, BuildLeft, PartsLeft}
+use Rattle.stages.specs.Stages.{leftOf}
+use Rattle.handed.specs.Parts.{leftAs}
+use Rattle.told.specs.Told.{told}
+
+-- the answer's numbers among those that go out
+unfoldable pub heard : List ℕ → List ℕ
+heard answer = take (answer ! 0) (drop 1 answer)
+
+-- "policy (keep soft, keep weak)"
+abbrev pub policyOf : Bool → Bool → ReferencePolicy
+policyOf soft weak = record { soft = soft; weak = weak }
+
+-- A build, told: its answer as numbers, and every column as it left them.
+pub record BuildTold (left : BuildLeft) (answer ts ls fs ws rs wk : List ℕ) (coded : CodedLeft) (a : List (List ℕ)) : Type 0 where
+  pub told-as : answer ≡ told 9 (left .says)
+  pub columns : leftOf (left .says) ts ls fs ws rs wk coded a ≡ left
+
+-- `from_parts`, told likewise.
+pub record PartsTold (left : PartsLeft) (answer : List ℕ) (coded : CodedLeft) : Type 0 where
+  pub told-as : answer ≡ told 9 (left .says)
+  pub columns : leftAs (left .says) coded ≡ left

@@ -1,0 +1,282 @@
+// The questions, over the used parts of a graph's columns; nothing is written but the answer.
+use rules::Span;
+ghost use mathlib.Core.Path.{_≡_};
+ghost use mathlib.Core.List.{[], _∷_};
+ghost use lib.ListN.{length};
+ghost use Rattle.store.specs.Blocked.{blockedOf};
+ghost use Rattle.rules.specs.Questions.{exactOf, labelOf};
+ghost use Rattle.query.specs.Reading.{spanOf, countOf, weakOf};
+ghost use Rattle.query.specs.Labelled.{graphOf, spanIn, edgeOf, coarseAt, Labelled};
+ghost use Rattle.query.specs.Sought.{fieldIn, referentIn};
+ghost use Rattle.reader.specs.Read.{nextOf};
+ghost use Rattle.told.specs.Told.{told};
+ghost use Rattle.yokefathom.specs.Calls.{heard};
+
+// Where the edges of an object sit in the target column.
+#[no_mangle]
+pub extern "C" fn yokefathom_span(
+    bases: &[u64],
+    short: &[u16],
+    long_at: &[u32],
+    long_value: &[u64],
+    codes: &[u16],
+    targets: &[u32],
+    object: usize,
+    answer: &mut [u64; 4],
+)
+    ensures { λ _. ⌜ now (answer .exit) ≡ told 4 (spanOf (blockedOf (now (bases .entry)) (now (short .entry)) (now («long_at» .entry)) (now («long_value» .entry))) (length (now (codes .entry))) (length (now (targets .entry))) object) ⌝ }
+{
+    let found = query::span(bases, short, long_at, long_value, codes, targets, object);
+    let says = told::span(found);
+    *answer = says;
+}
+
+// How many edges an object has.
+#[no_mangle]
+pub extern "C" fn yokefathom_edge_count(
+    bases: &[u64],
+    short: &[u16],
+    long_at: &[u32],
+    long_value: &[u64],
+    codes: &[u16],
+    targets: &[u32],
+    object: usize,
+    answer: &mut [u64; 4],
+)
+    ensures { λ _. ⌜ now (answer .exit) ≡ told 4 (countOf (spanOf (blockedOf (now (bases .entry)) (now (short .entry)) (now («long_at» .entry)) (now («long_value» .entry))) (length (now (codes .entry))) (length (now (targets .entry))) object)) ⌝ }
+{
+    let found = query::edge_count(bases, short, long_at, long_value, codes, targets, object);
+    let says = told::edge_count(found);
+    *answer = says;
+}
+
+// The rows of an object's weak pairs.
+#[no_mangle]
+pub extern "C" fn yokefathom_weak_referents(
+    short: &[u16],
+    weak_from: &[u32],
+    weak_to: &[u32],
+    object: usize,
+    answer: &mut [u64; 4],
+)
+    ensures { λ _. ⌜ now (answer .exit) ≡ told 4 (weakOf (length (now (short .entry))) (now («weak_from» .entry)) (now («weak_to» .entry)) object) ⌝ }
+{
+    let found = query::weak_referents(short, weak_from, weak_to, object);
+    let says = told::weak_referents(found);
+    *answer = says;
+}
+
+// The field label of an edge of an object, or just `ARRAY_ELEMENT` for an element.
+#[no_mangle]
+pub extern "C" fn yokefathom_coarse_label(
+    bases: &[u64],
+    short: &[u16],
+    long_at: &[u32],
+    long_value: &[u64],
+    codes: &[u16],
+    targets: &[u32],
+    fields: &[u32],
+    escape_at: &[u64],
+    escape_label: &[u32],
+    object: usize,
+    edge: usize,
+    answer: &mut [u64; 4],
+)
+    ensures { λ _. ⌜ now (answer .exit) ≡ told 4 (coarseAt (graphOf (now (bases .entry)) (now (short .entry)) (now («long_at» .entry)) (now («long_value» .entry)) (now (codes .entry)) (now (targets .entry)) (now (fields .entry)) (now («escape_at» .entry)) (now («escape_label» .entry)) [] []) object edge) ⌝ }
+{
+    let found = query::label::coarse_label(
+        bases,
+        short,
+        long_at,
+        long_value,
+        codes,
+        targets,
+        fields,
+        escape_at,
+        escape_label,
+        object,
+        edge,
+    );
+    let says = told::coarse_label(found);
+    *answer = says;
+}
+
+// The label of an edge of an object, an element's with its index.
+#[no_mangle]
+pub extern "C" fn yokefathom_exact_label(
+    bases: &[u64],
+    short: &[u16],
+    long_at: &[u32],
+    long_value: &[u64],
+    codes: &[u16],
+    targets: &[u32],
+    fields: &[u32],
+    escape_at: &[u64],
+    escape_label: &[u32],
+    object: usize,
+    edge: usize,
+    answer: &mut [u64; 4],
+)
+    ensures { λ _. ⌜ (now (answer .exit) ≡ told 4 (heard (now (answer .exit)))) × Labelled object (edgeOf (spanIn (graphOf (now (bases .entry)) (now (short .entry)) (now («long_at» .entry)) (now («long_value» .entry)) (now (codes .entry)) (now (targets .entry)) (now (fields .entry)) (now («escape_at» .entry)) (now («escape_label» .entry)) [] []) object) edge) (heard (now (answer .exit))) (exactOf (graphOf (now (bases .entry)) (now (short .entry)) (now («long_at» .entry)) (now («long_value» .entry)) (now (codes .entry)) (now (targets .entry)) (now (fields .entry)) (now («escape_at» .entry)) (now («escape_label» .entry)) [] []) object edge) ⌝ }
+{
+    let found = query::label::exact_label(
+        bases,
+        short,
+        long_at,
+        long_value,
+        codes,
+        targets,
+        fields,
+        escape_at,
+        escape_label,
+        object,
+        edge,
+    );
+    let says = told::exact_label(found);
+    *answer = says;
+}
+
+// The exact label of an object's first edge to a target.
+#[no_mangle]
+pub extern "C" fn yokefathom_label_of(
+    bases: &[u64],
+    short: &[u16],
+    long_at: &[u32],
+    long_value: &[u64],
+    codes: &[u16],
+    targets: &[u32],
+    fields: &[u32],
+    escape_at: &[u64],
+    escape_label: &[u32],
+    object: usize,
+    target: u32,
+    answer: &mut [u64; 4],
+)
+    ensures { λ _. ⌜ (now (answer .exit) ≡ told 4 (heard (now (answer .exit)))) × Labelled object (spanIn (graphOf (now (bases .entry)) (now (short .entry)) (now («long_at» .entry)) (now («long_value» .entry)) (now (codes .entry)) (now (targets .entry)) (now (fields .entry)) (now («escape_at» .entry)) (now («escape_label» .entry)) [] []) object) (heard (now (answer .exit))) (labelOf (graphOf (now (bases .entry)) (now (short .entry)) (now («long_at» .entry)) (now («long_value» .entry)) (now (codes .entry)) (now (targets .entry)) (now (fields .entry)) (now («escape_at» .entry)) (now («escape_label» .entry)) [] []) object target) ⌝ }
+{
+    let found = query::label::label_of(
+        bases,
+        short,
+        long_at,
+        long_value,
+        codes,
+        targets,
+        fields,
+        escape_at,
+        escape_label,
+        object,
+        target,
+    );
+    let says = told::label_of(found);
+    *answer = says;
+}
+
+// The target of a field of an object.
+#[no_mangle]
+pub extern "C" fn yokefathom_field(
+    bases: &[u64],
+    short: &[u16],
+    long_at: &[u32],
+    long_value: &[u64],
+    codes: &[u16],
+    targets: &[u32],
+    fields: &[u32],
+    escape_at: &[u64],
+    escape_label: &[u32],
+    table: &[u16],
+    object: usize,
+    label: u32,
+    answer: &mut [u64; 4],
+)
+    ensures { λ _. ⌜ now (answer .exit) ≡ told 4 (fieldIn (graphOf (now (bases .entry)) (now (short .entry)) (now («long_at» .entry)) (now («long_value» .entry)) (now (codes .entry)) (now (targets .entry)) (now (fields .entry)) (now («escape_at» .entry)) (now («escape_label» .entry)) [] []) (now (table .entry)) object label) ⌝ }
+{
+    let found = query::field::field(
+        bases,
+        short,
+        long_at,
+        long_value,
+        codes,
+        targets,
+        fields,
+        escape_at,
+        escape_label,
+        table,
+        object,
+        label,
+    );
+    let says = told::field(found);
+    *answer = says;
+}
+
+// The target of a field of an object, or where it has none its smallest weak target.
+#[no_mangle]
+pub extern "C" fn yokefathom_referent(
+    bases: &[u64],
+    short: &[u16],
+    long_at: &[u32],
+    long_value: &[u64],
+    codes: &[u16],
+    targets: &[u32],
+    fields: &[u32],
+    escape_at: &[u64],
+    escape_label: &[u32],
+    table: &[u16],
+    weak_from: &[u32],
+    weak_to: &[u32],
+    object: usize,
+    label: u32,
+    answer: &mut [u64; 4],
+)
+    ensures { λ _. ⌜ now (answer .exit) ≡ told 4 (referentIn (graphOf (now (bases .entry)) (now (short .entry)) (now («long_at» .entry)) (now («long_value» .entry)) (now (codes .entry)) (now (targets .entry)) (now (fields .entry)) (now («escape_at» .entry)) (now («escape_label» .entry)) (now («weak_from» .entry)) (now («weak_to» .entry))) (now (table .entry)) object label) ⌝ }
+{
+    let found = query::field::referent(
+        bases,
+        short,
+        long_at,
+        long_value,
+        codes,
+        targets,
+        fields,
+        escape_at,
+        escape_label,
+        table,
+        weak_from,
+        weak_to,
+        object,
+        label,
+    );
+    let says = told::referent(found);
+    *answer = says;
+}
+
+// Edge k of an object whose span is given, where the edges before it were read in order: `expected` is 0 for the first, and then what the edge before gave.
+#[no_mangle]
+pub extern "C" fn yokefathom_edge(
+    targets: &[u32],
+    codes: &[u16],
+    fields: &[u32],
+    escape_at: &[u64],
+    escape_label: &[u32],
+    start: usize,
+    end: usize,
+    object: usize,
+    k: usize,
+    expected: u32,
+    answer: &mut [u64; 5],
+)
+    ensures { λ _. ⌜ now (answer .exit) ≡ told 5 (nextOf (0 ∷ start ∷ end ∷ []) (now (targets .entry)) (now (codes .entry)) (now (fields .entry)) (now («escape_at» .entry)) (now («escape_label» .entry)) object k expected) ⌝ }
+{
+    let found = reader::edge_of(
+        targets,
+        codes,
+        fields,
+        escape_at,
+        escape_label,
+        Span::Edges { start, end },
+        object,
+        k,
+        expected,
+    );
+    let says = told::next_edge(found);
+    *answer = says;
+}

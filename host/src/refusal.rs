@@ -1,0 +1,121 @@
+//! Why a call refuses: document 01's twelve numbers.
+use std::fmt;
+
+/// A refusal with its place. [`number`](Refusal::number) and [`name`](Refusal::name) are document 01's; printed, it says so in words.
+#[derive(Clone, Copy, Debug, PartialEq, Eq, Hash)]
+pub enum Refusal {
+    /// Columns of one table differ in length.
+    Lengths,
+    /// Objects, classes, names, slots or statics over the limit, or an id size that is not 4 or 8.
+    Limit,
+    /// An object whose id, kind, class or length is wrong.
+    Object(u64),
+    /// A class whose flag, kind, ranges, slots or statics are wrong, or that is found badly.
+    Class(u64),
+    /// A wrong escape or code among the copied ids.
+    Copied(u64),
+    /// An object whose part ends past its column or bytes.
+    Span(u64),
+    /// A root that is no object.
+    Root(u64),
+    /// More places than the limit.
+    Places,
+    /// A buffer that is smaller than its need. [`Graph`](crate::Graph) lends enough, so a host does not see this one.
+    Room(u64),
+    /// Columns handed to `from_parts` that break their rules.
+    Parts { column: u64, position: u64 },
+    /// A question about an object, or an edge of an object, that does not exist.
+    Index(u64),
+    /// An entry that cannot be read back. Never on the columns that a build left.
+    Columns(u64),
+}
+
+impl Refusal {
+    /// From the numbers that a call said, if the first is not 0.
+    pub(crate) fn from_numbers(says: &[u64]) -> Option<Refusal> {
+        let place = says.get(1).copied().unwrap_or(0);
+        Some(match says.first()? {
+            1 => Refusal::Lengths,
+            2 => Refusal::Limit,
+            3 => Refusal::Object(place),
+            4 => Refusal::Class(place),
+            5 => Refusal::Copied(place),
+            6 => Refusal::Span(place),
+            7 => Refusal::Root(place),
+            8 => Refusal::Places,
+            9 => Refusal::Room(place),
+            10 => Refusal::Parts { column: place, position: says.get(2).copied().unwrap_or(0) },
+            11 => Refusal::Index(place),
+            12 => Refusal::Columns(place),
+            _ => return None,
+        })
+    }
+
+    /// The number in document 01's table.
+    pub fn number(self) -> u8 {
+        match self {
+            Refusal::Lengths => 1,
+            Refusal::Limit => 2,
+            Refusal::Object(_) => 3,
+            Refusal::Class(_) => 4,
+            Refusal::Copied(_) => 5,
+            Refusal::Span(_) => 6,
+            Refusal::Root(_) => 7,
+            Refusal::Places => 8,
+            Refusal::Room(_) => 9,
+            Refusal::Parts { .. } => 10,
+            Refusal::Index(_) => 11,
+            Refusal::Columns(_) => 12,
+        }
+    }
+
+    /// The name in document 01's table.
+    pub fn name(self) -> &'static str {
+        const NAMES: [&str; 12] = [
+            "LENGTHS", "LIMIT", "OBJECT", "CLASS", "COPIED", "SPAN", "ROOT", "PLACES", "ROOM", "PARTS", "INDEX", "COLUMNS",
+        ];
+        NAMES[usize::from(self.number()) - 1]
+    }
+
+    /// The place that is returned with the number; of PARTS, the position.
+    pub fn place(self) -> u64 {
+        match self {
+            Refusal::Lengths | Refusal::Limit | Refusal::Places => 0,
+            Refusal::Parts { position, .. } => position,
+            Refusal::Object(at)
+            | Refusal::Class(at)
+            | Refusal::Copied(at)
+            | Refusal::Span(at)
+            | Refusal::Root(at)
+            | Refusal::Room(at)
+            | Refusal::Index(at)
+            | Refusal::Columns(at) => at,
+        }
+    }
+}
+
+impl fmt::Display for Refusal {
+    fn fmt(&self, f: &mut fmt::Formatter<'_>) -> fmt::Result {
+        write!(f, "{} (refusal {}): ", self.name(), self.number())?;
+        match self {
+            Refusal::Lengths => write!(f, "columns of one table differ in length"),
+            Refusal::Limit => write!(f, "more objects, classes, names, slots or statics than the limit, or an id size other than 4 and 8"),
+            Refusal::Object(at) => write!(f, "object {at} has a wrong id, kind, class or length"),
+            Refusal::Class(at) => write!(f, "class {at} has a wrong flag, kind, range, slot or static, or is found badly"),
+            Refusal::Copied(at) => write!(f, "the copied ids are wrong at position {at}"),
+            Refusal::Span(at) => write!(f, "the part of object {at} ends past its column, or is no array's"),
+            Refusal::Root(at) => write!(f, "root {at} is no object"),
+            Refusal::Places => write!(f, "more places for edges than the limit"),
+            Refusal::Room(at) => write!(f, "buffer {at} is smaller than its need"),
+            Refusal::Parts { column, position } => {
+                const COLUMNS: [&str; 6] = ["no column", "offsets", "labels", "targets", "weak pairs", "roots"];
+                let column = COLUMNS.get(*column as usize).unwrap_or(&COLUMNS[0]);
+                write!(f, "the {column} handed over are wrong at position {position}")
+            }
+            Refusal::Index(at) => write!(f, "there is no object or edge {at}"),
+            Refusal::Columns(at) => write!(f, "the columns of object {at} cannot be read back"),
+        }
+    }
+}
+
+impl std::error::Error for Refusal {}
