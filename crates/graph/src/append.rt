@@ -24,7 +24,7 @@ pub fn narrow(x: usize) -> u32
 }
 
 // "Id 0 gives nothing. Found and kept: an edge with the slot's label. Found, not kept: a weak pair. Not found: dangling, kept or not." But "a missing
-// loader is not". The guess says where the search starts, and nothing else.
+// loader is not". The hints say where the search starts, and nothing else.
 pub fn append(
     s: Pass,
     ids: &[u64],
@@ -32,7 +32,8 @@ pub fn append(
     label: u32,
     kept: bool,
     id: u64,
-    guess: usize,
+    hints: &[u32],
+    scale: u32,
     targets: &mut [u32],
     labels: &mut [u32],
     weak: &mut [u32],
@@ -43,7 +44,7 @@ pub fn append(
     if id == 0 {
         return s;
     }
-    match lookup::find_sorted(ids, id, guess) {
+    match lookup::hints::find_hinted(ids, id, hints, scale) {
         lookup::Found::At(t) => {
             if kept {
                 let at = s.edges;
@@ -80,7 +81,8 @@ pub fn append_slot(
     keeps: bool,
     place: usize,
     id: u64,
-    guess: usize,
+    hints: &[u32],
+    scale: u32,
     targets: &mut [u32],
     labels: &mut [u32],
     weak: &mut [u32],
@@ -97,7 +99,8 @@ pub fn append_slot(
         slot_labels[place],
         kept,
         id,
-        guess,
+        hints,
+        scale,
         targets,
         labels,
         weak,
@@ -110,7 +113,8 @@ pub fn append_element(
     ids: &[u64],
     k: usize,
     id: u64,
-    guess: usize,
+    hints: &[u32],
+    scale: u32,
     targets: &mut [u32],
     labels: &mut [u32],
     weak: &mut [u32],
@@ -127,7 +131,8 @@ pub fn append_element(
         label,
         true,
         id,
-        guess,
+        hints,
+        scale,
         targets,
         labels,
         weak,

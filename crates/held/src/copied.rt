@@ -41,7 +41,8 @@ fn slots(
     keeps: bool,
     first: usize,
     count: usize,
-    guess: usize,
+    hints: &[u32],
+    scale: u32,
     targets: &mut [u32],
     labels: &mut [u32],
     weak: &mut [u32],
@@ -62,7 +63,8 @@ fn slots(
             keeps,
             first + k,
             id,
-            guess,
+            hints,
+            scale,
             targets,
             labels,
             weak,
@@ -82,7 +84,8 @@ fn elements(
     base: u64,
     start: usize,
     count: usize,
-    guess: usize,
+    hints: &[u32],
+    scale: u32,
     targets: &mut [u32],
     labels: &mut [u32],
     weak: &mut [u32],
@@ -95,7 +98,7 @@ fn elements(
     let mut k = 0;
     while k < count {
         let id = id_held(codes, escape_places, escape_ids, base, start + k);
-        s = append::append_element(s, ids, k, id, guess, targets, labels, weak);
+        s = append::append_element(s, ids, k, id, hints, scale, targets, labels, weak);
         k += 1;
     }
     s
@@ -118,7 +121,8 @@ pub fn object_slots(
     policy: rules::ReferencePolicy,
     kind: u8,
     class: usize,
-    guess: usize,
+    hints: &[u32],
+    scale: u32,
     targets: &mut [u32],
     labels: &mut [u32],
     weak: &mut [u32],
@@ -146,7 +150,8 @@ pub fn object_slots(
         keeps,
         first,
         count,
-        guess,
+        hints,
+        scale,
         targets,
         labels,
         weak,
@@ -164,7 +169,8 @@ pub fn object_elements(
     start: usize,
     kind: u8,
     count: usize,
-    guess: usize,
+    hints: &[u32],
+    scale: u32,
     targets: &mut [u32],
     labels: &mut [u32],
     weak: &mut [u32],
@@ -185,7 +191,8 @@ pub fn object_elements(
         base,
         start,
         count,
-        guess,
+        hints,
+        scale,
         targets,
         labels,
         weak,

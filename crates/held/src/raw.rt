@@ -51,7 +51,8 @@ fn slots(
     keeps: bool,
     first: usize,
     count: usize,
-    guess: usize,
+    hints: &[u32],
+    scale: u32,
     targets: &mut [u32],
     labels: &mut [u32],
     weak: &mut [u32],
@@ -77,7 +78,8 @@ fn slots(
             keeps,
             first + k,
             id,
-            guess,
+            hints,
+            scale,
             targets,
             labels,
             weak,
@@ -95,7 +97,8 @@ fn elements(
     size: usize,
     start: usize,
     count: usize,
-    guess: usize,
+    hints: &[u32],
+    scale: u32,
     targets: &mut [u32],
     labels: &mut [u32],
     weak: &mut [u32],
@@ -109,7 +112,7 @@ fn elements(
     let mut k = 0;
     while k < count {
         let id = id_at_bytes(bytes, at, size);
-        s = append::append_element(s, ids, k, id, guess, targets, labels, weak);
+        s = append::append_element(s, ids, k, id, hints, scale, targets, labels, weak);
         at += size;
         k += 1;
     }
@@ -133,7 +136,8 @@ pub fn object_slots(
     policy: rules::ReferencePolicy,
     kind: u8,
     class: usize,
-    guess: usize,
+    hints: &[u32],
+    scale: u32,
     targets: &mut [u32],
     labels: &mut [u32],
     weak: &mut [u32],
@@ -163,7 +167,8 @@ pub fn object_slots(
         keeps,
         first,
         count,
-        guess,
+        hints,
+        scale,
         targets,
         labels,
         weak,
@@ -179,7 +184,8 @@ pub fn object_elements(
     start: usize,
     kind: u8,
     count: usize,
-    guess: usize,
+    hints: &[u32],
+    scale: u32,
     targets: &mut [u32],
     labels: &mut [u32],
     weak: &mut [u32],
@@ -198,7 +204,8 @@ pub fn object_elements(
         size,
         start,
         count,
-        guess,
+        hints,
+        scale,
         targets,
         labels,
         weak,

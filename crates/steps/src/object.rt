@@ -14,7 +14,7 @@ ghost use Rattle.graph.specs.Held.{SlotsIn, StaticsIn};
 ghost use Rattle.graph.specs.Raw.{BodyIn};
 ghost use Rattle.graph.specs.Object.{copiedParts, rawParts, Ready, Done};
 
-// By the copied route. The object's own number is the guess: references are often near.
+// By the copied route.
 pub fn object_copied(
     from: Pass,
     object: usize,
@@ -40,6 +40,8 @@ pub fn object_copied(
     names: &[u32],
     types: &[u8],
     values: &[u64],
+    hints: &[u32],
+    scale: u32,
     targets: &mut [u32],
     labels: &mut [u32],
     weak_from: &mut [u32],
@@ -70,7 +72,8 @@ pub fn object_copied(
         policy,
         kind,
         class,
-        object,
+        hints,
+        scale,
         targets,
         labels,
         weak_to,
@@ -85,7 +88,8 @@ pub fn object_copied(
         start,
         kind,
         count,
-        object,
+        hints,
+        scale,
         targets,
         labels,
         weak_to,
@@ -99,12 +103,23 @@ pub fn object_copied(
         types,
         values,
         mark,
-        object,
+        hints,
+        scale,
         targets,
         labels,
         weak_to,
     );
-    let s4 = class::found_loader(s3, ids, loaders, mark, object, targets, labels, weak_to);
+    let s4 = class::found_loader(
+        s3,
+        ids,
+        loaders,
+        mark,
+        hints,
+        scale,
+        targets,
+        labels,
+        weak_to,
+    );
     account::tally(account, from, s1, s2, s3, s4);
     weak::settle(
         weak_from,
@@ -142,6 +157,8 @@ pub fn object_raw(
     names: &[u32],
     types: &[u8],
     values: &[u64],
+    hints: &[u32],
+    scale: u32,
     targets: &mut [u32],
     labels: &mut [u32],
     weak_from: &mut [u32],
@@ -174,7 +191,8 @@ pub fn object_raw(
         policy,
         kind,
         class,
-        object,
+        hints,
+        scale,
         targets,
         labels,
         weak_to,
@@ -187,7 +205,8 @@ pub fn object_raw(
         start,
         kind,
         count,
-        object,
+        hints,
+        scale,
         targets,
         labels,
         weak_to,
@@ -201,12 +220,23 @@ pub fn object_raw(
         types,
         values,
         mark,
-        object,
+        hints,
+        scale,
         targets,
         labels,
         weak_to,
     );
-    let s4 = class::found_loader(s3, ids, loaders, mark, object, targets, labels, weak_to);
+    let s4 = class::found_loader(
+        s3,
+        ids,
+        loaders,
+        mark,
+        hints,
+        scale,
+        targets,
+        labels,
+        weak_to,
+    );
     account::tally(account, from, s1, s2, s3, s4);
     weak::settle(
         weak_from,

@@ -42,6 +42,8 @@ pub fn walk_copied(
     names: &[u32],
     types: &[u8],
     values: &[u64],
+    hints: &[u32],
+    scale: u32,
     targets: &mut [u32],
     labels: &mut [u32],
     weak_from: &mut [u32],
@@ -81,6 +83,8 @@ pub fn walk_copied(
             names,
             types,
             values,
+            hints,
+            scale,
             targets,
             labels,
             weak_from,
@@ -135,6 +139,9 @@ pub fn edges_copied(
     if !rules::accepted(v) {
         return v;
     }
+    let mut hints: [u32; 32769] = [0; 32769];
+    let scale = lookup::hints::scale(ids);
+    lookup::hints::mark(ids, scale, &mut hints);
     let q = walk_copied(
         Pass::begun(),
         0,
@@ -161,6 +168,8 @@ pub fn edges_copied(
         names,
         types,
         values,
+        &hints,
+        scale,
         targets,
         labels,
         weak_from,

@@ -7,8 +7,8 @@ use Rattle.graph.proofs.append.append_slot.Tie as tie
 
 append-requires : tie.Need-append-requires
 append-requires c κs =
-    let a = c .before .before .before .before .before .before .before .before .before .before .before .before .args in
-    rw (slot-read (a .slot-labels .now) (a .slot-weak .now) (a .keeps) (a .place) (a .id) (c .before .before .before .before .is-kept .ensures)) (c .before .before .before .before .before .before .before .before .before .before .before .before .pre .1)
+    let a = c .before .before .before .before .before .before .before .before .before .before .before .before .before .args in
+    rw (slot-read (a .slot-labels .now) (a .slot-weak .now) (a .keeps) (a .place) (a .id) (c .before .before .before .before .is-kept .ensures)) (c .before .before .before .before .before .before .before .before .before .before .before .before .before .pre .1)
 
 same-length : tie.Need-same-length
 same-length c = same-targets (c .before .before .before .before .before .before .append .ensures)
@@ -21,7 +21,7 @@ same-length-3 c = same-weak (c .before .before .before .before .before .before .
 
 returns : tie.Need-returns
 returns c =
-    let a = c .before .before .before .before .before .before .before .before .before .before .before .before .before .before .before .before .before .before .before .args in
+    let a = c .before .before .before .before .before .before .before .before .before .before .before .before .before .before .before .before .before .before .before .before .args in
     rw (← slot-read (a .slot-labels .now) (a .slot-weak .now) (a .keeps) (a .place) (a .id) (c .before .before .before .before .before .before .before .before .before .before .before .is-kept .ensures)) (c .before .before .before .before .before .before .append .ensures)
 
 pub append-slot-spec : {M : Type 1} → statement M

@@ -10,10 +10,10 @@ use Rattle.held.proofs.class.statics.Statement.{statement}
 use Rattle.held.proofs.class.statics.Tie as tie
 
 abbrev Inv-loop : tie.InvT-loop
-Inv-loop ids names types values first count guess targets₀ labels₀ weak₀ s₀ k₀ targets labels weak s k = (k ≤ count) × Appended ids (collect (staticFrom names types values first) k) s₀ s targets₀ labels₀ weak₀ targets labels weak
+Inv-loop ids names types values first count hints scale targets₀ labels₀ weak₀ s₀ k₀ targets labels weak s k = (k ≤ count) × Appended ids (collect (staticFrom names types values first) k) s₀ s targets₀ labels₀ weak₀ targets labels weak
 
 abbrev μ-loop : tie.MeasureT-loop
-μ-loop ids names types values first count guess targets₀ labels₀ weak₀ s₀ k₀ targets labels weak s k = count - k
+μ-loop ids names types values first count hints scale targets₀ labels₀ weak₀ s₀ k₀ targets labels weak s k = count - k
 
 loop-holds : tie.Need-loop-holds Inv-loop μ-loop
 loop-holds c = (search needs, appended-none)
@@ -21,13 +21,13 @@ loop-holds c = (search needs, appended-none)
 append-static-requires : tie.Need-append-static-requires Inv-loop μ-loop
 unfolding staticFrom
 append-static-requires c κs =
-    let a = c .before .before .before .before .before .before .before .before .before .before .before .before .args in
-    (search needs, room-part (staticFrom (a .names .now) (a .types .now) (a .values .now) (a .first)) (c .before .before .before .before .loop .k) (c .before .before .before .before .loop .inv .1) (a .count) (c .before .before .before .loop-test .taken) (c .before .before .before .before .before .before .before .before .before .before .before .before .pre .1))
+    let a = c .before .before .before .before .before .before .before .before .before .before .before .before .before .args in
+    (search needs, room-part (staticFrom (a .names .now) (a .types .now) (a .values .now) (a .first)) (c .before .before .before .before .loop .k) (c .before .before .before .before .loop .inv .1) (a .count) (c .before .before .before .loop-test .taken) (c .before .before .before .before .before .before .before .before .before .before .before .before .before .pre .1))
 
 loop-again : tie.Need-loop-again Inv-loop μ-loop
 unfolding staticFrom
 loop-again c =
-    let a = c .before .before .before .before .before .before .before .before .before .before .before .before .before .before .before .before .before .before .before .args in
+    let a = c .before .before .before .before .before .before .before .before .before .before .before .before .before .before .before .before .before .before .before .before .args in
     (search needs, more-parts (staticFrom (a .names .now) (a .types .now) (a .values .now) (a .first)) (c .before .before .before .before .before .before .before .before .before .before .before .loop .k) (c .before .before .before .before .before .before .before .before .before .before .before .loop .inv .1) (c .before .before .before .before .before .before .append-static .ensures))
 
 same-length : tie.Need-same-length Inv-loop μ-loop
@@ -41,7 +41,7 @@ same-length-3 c = same-weak (c .before .loop .inv .1)
 
 returns : tie.Need-returns Inv-loop μ-loop
 returns c =
-    let a = c .before .before .before .before .before .before .before .before .before .args in
+    let a = c .before .before .before .before .before .before .before .before .before .before .args in
     parts-end (staticFrom (a .names .now) (a .types .now) (a .values .now) (a .first)) (c .before .loop .k) (a .count) (omega arith) (c .before .loop .inv .1)
 
 pub statics-spec : {M : Type 1} → statement M

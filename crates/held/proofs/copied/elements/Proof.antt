@@ -12,23 +12,23 @@ use Rattle.held.proofs.copied.elements.Statement.{statement}
 use Rattle.held.proofs.copied.elements.Tie as tie
 
 abbrev Inv-loop : tie.InvT-loop
-Inv-loop ids codes escape-places escape-ids base start count guess targets₀ labels₀ weak₀ s₀ k₀ targets labels weak s k = (k ≤ count) × Appended ids (tab (copiedElement (idsOf codes escape-places escape-ids base) start) k) s₀ s targets₀ labels₀ weak₀ targets labels weak
+Inv-loop ids codes escape-places escape-ids base start count hints scale targets₀ labels₀ weak₀ s₀ k₀ targets labels weak s k = (k ≤ count) × Appended ids (tab (copiedElement (idsOf codes escape-places escape-ids base) start) k) s₀ s targets₀ labels₀ weak₀ targets labels weak
 
 abbrev μ-loop : tie.MeasureT-loop
-μ-loop ids codes escape-places escape-ids base start count guess targets₀ labels₀ weak₀ s₀ k₀ targets labels weak s k = count - k
+μ-loop ids codes escape-places escape-ids base start count hints scale targets₀ labels₀ weak₀ s₀ k₀ targets labels weak s k = count - k
 
 loop-holds : tie.Need-loop-holds Inv-loop μ-loop
 loop-holds c = (search needs, tab-none _)
 
 append-element-requires : tie.Need-append-element-requires Inv-loop μ-loop
 append-element-requires c κs =
-    let a = c .before .before .before .before .before .before .before .before .before .before .before .before .before .args in
+    let a = c .before .before .before .before .before .before .before .before .before .before .before .before .before .before .args in
     let e = copied-element (idsOf (a .codes .now) (a .escape-places .now) (a .escape-ids .now) (a .base)) (a .start) (c .before .before .before .before .before .loop .k) (c .before .before .before .id-held .ensures) in
-    (search needs, tab-room (copiedElement (idsOf (a .codes .now) (a .escape-places .now) (a .escape-ids .now) (a .base)) (a .start)) (c .before .before .before .before .before .loop .k) (c .before .before .before .before .before .loop .inv .1) e (a .count) (c .before .before .before .before .loop-test .taken) (c .before .before .before .before .before .before .before .before .before .before .before .before .before .pre .1))
+    (search needs, tab-room (copiedElement (idsOf (a .codes .now) (a .escape-places .now) (a .escape-ids .now) (a .base)) (a .start)) (c .before .before .before .before .before .loop .k) (c .before .before .before .before .before .loop .inv .1) e (a .count) (c .before .before .before .before .loop-test .taken) (c .before .before .before .before .before .before .before .before .before .before .before .before .before .before .pre .1))
 
 loop-again : tie.Need-loop-again Inv-loop μ-loop
 loop-again c =
-    let a = c .before .before .before .before .before .before .before .before .before .before .before .before .before .before .before .before .before .before .before .before .args in
+    let a = c .before .before .before .before .before .before .before .before .before .before .before .before .before .before .before .before .before .before .before .before .before .args in
     let e = copied-element (idsOf (a .codes .now) (a .escape-places .now) (a .escape-ids .now) (a .base)) (a .start) (c .before .before .before .before .before .before .before .before .before .before .before .before .loop .k) (c .before .before .before .before .before .before .before .before .before .before .id-held .ensures) in
     (search needs, tab-more (copiedElement (idsOf (a .codes .now) (a .escape-places .now) (a .escape-ids .now) (a .base)) (a .start)) (c .before .before .before .before .before .before .before .before .before .before .before .before .loop .k) (c .before .before .before .before .before .before .before .before .before .before .before .before .loop .inv .1) e (c .before .before .before .before .before .before .append-element .ensures))
 
@@ -43,7 +43,7 @@ same-length-3 c = same-weak (c .before .loop .inv .1)
 
 returns : tie.Need-returns Inv-loop μ-loop
 returns c =
-    let a = c .before .before .before .before .before .before .before .before .before .args in
+    let a = c .before .before .before .before .before .before .before .before .before .before .args in
     tab-end (copiedElement (idsOf (a .codes .now) (a .escape-places .now) (a .escape-ids .now) (a .base)) (a .start)) (c .before .loop .k) (a .count) (omega arith) (c .before .loop .inv .1)
 
 pub elements-spec : {M : Type 1} → statement M

@@ -7,13 +7,13 @@ use Rattle.held.proofs.copied.object_elements.Tie as tie
 
 returns : tie.Need-returns
 returns c =
-    let a = c .before .before .before .before .before .before .before .before .args in
+    let a = c .before .before .before .before .before .before .before .before .before .args in
     rw (← elements-none (idsOf (a .codes .now) (a .escape-places .now) (a .escape-ids .now) (a .base)) (a .start) (a .kind) (a .count) (c .if1 .taken)) appended-none
 
 elements-requires : tie.Need-elements-requires
 elements-requires c κs =
-    let a = c .before .before .before .before .before .before .before .before .before .before .before .args in
-    (c .before .before .before .before .before .before .before .before .before .before .before .pre .0 (c .before .before .before .if1 .left), rw (elements-some (idsOf (a .codes .now) (a .escape-places .now) (a .escape-ids .now) (a .base)) (a .start) (a .kind) (a .count) (c .before .before .before .if1 .left)) (c .before .before .before .before .before .before .before .before .before .before .before .pre .1))
+    let a = c .before .before .before .before .before .before .before .before .before .before .before .before .args in
+    (c .before .before .before .before .before .before .before .before .before .before .before .before .pre .0 (c .before .before .before .if1 .left), rw (elements-some (idsOf (a .codes .now) (a .escape-places .now) (a .escape-ids .now) (a .base)) (a .start) (a .kind) (a .count) (c .before .before .before .if1 .left)) (c .before .before .before .before .before .before .before .before .before .before .before .before .pre .1))
 
 same-length : tie.Need-same-length
 same-length c = same-targets (c .before .before .before .before .before .before .elements .ensures)
@@ -26,7 +26,7 @@ same-length-3 c = same-weak (c .before .before .before .before .before .before .
 
 returns-2 : tie.Need-returns-2
 returns-2 c =
-    let a = c .before .before .before .before .before .before .before .before .before .before .before .before .before .before .before .before .before .before .args in
+    let a = c .before .before .before .before .before .before .before .before .before .before .before .before .before .before .before .before .before .before .before .args in
     rw (← elements-some (idsOf (a .codes .now) (a .escape-places .now) (a .escape-ids .now) (a .base)) (a .start) (a .kind) (a .count) (c .before .before .before .before .before .before .before .before .before .before .if1 .left)) (c .before .before .before .before .before .before .elements .ensures)
 
 pub object-elements-spec : {M : Type 1} → statement M

@@ -12,23 +12,26 @@ use Rattle.held.proofs.copied.slots.Statement.{statement}
 use Rattle.held.proofs.copied.slots.Tie as tie
 
 abbrev Inv-loop : tie.InvT-loop
-Inv-loop ids codes escape-places escape-ids base start slot-labels slot-weak keeps first count guess targets₀ labels₀ weak₀ s₀ k₀ targets labels weak s k = (k ≤ count) × Appended ids (tab (copiedSlot (idsOf codes escape-places escape-ids base) start slot-labels slot-weak keeps first) k) s₀ s targets₀ labels₀ weak₀ targets labels weak
+Inv-loop ids codes escape-places escape-ids base start slot-labels slot-weak keeps first count hints scale targets₀ labels₀ weak₀ s₀ k₀ targets labels weak s k = (k ≤ count) × Appended ids (tab (copiedSlot (idsOf codes escape-places escape-ids base) start slot-labels slot-weak keeps first) k) s₀ s targets₀ labels₀ weak₀ targets labels weak
 
 abbrev μ-loop : tie.MeasureT-loop
-μ-loop ids codes escape-places escape-ids base start slot-labels slot-weak keeps first count guess targets₀ labels₀ weak₀ s₀ k₀ targets labels weak s k = count - k
+μ-loop ids codes escape-places escape-ids base start slot-labels slot-weak keeps first count hints scale targets₀ labels₀ weak₀ s₀ k₀ targets labels weak s k = count - k
 
 loop-holds : tie.Need-loop-holds Inv-loop μ-loop
 loop-holds c = (search needs, tab-none _)
 
 append-slot-requires : tie.Need-append-slot-requires Inv-loop μ-loop
 append-slot-requires c κs =
-    let a = c .before .before .before .before .before .before .before .before .before .before .before .before .before .before .before .args in
+    let a = c .before .before .before .before .before .before .before .before .before .before .before .before .before .before .before .before .args in
     let e = copied-slot (idsOf (a .codes .now) (a .escape-places .now) (a .escape-ids .now) (a .base)) (a .start) (c .before .before .before .before .before .loop .k) (c .before .before .before .id-held .ensures) (a .slot-labels .now) (a .slot-weak .now) (a .keeps) (a .first) in
-    (search needs, tab-room (copiedSlot (idsOf (a .codes .now) (a .escape-places .now) (a .escape-ids .now) (a .base)) (a .start) (a .slot-labels .now) (a .slot-weak .now) (a .keeps) (a .first)) (c .before .before .before .before .before .loop .k) (c .before .before .before .before .before .loop .inv .1) e (a .count) (c .before .before .before .before .loop-test .taken) (c .before .before .before .before .before .before .before .before .before .before .before .before .before .before .before .pre .1))
+    (search needs, tab-room (copiedSlot (idsOf (a .codes .now) (a .escape-places .now) (a .escape-ids .now) (a .base)) (a .start) (a .slot-labels .now) (a .slot-weak .now) (a .keeps) (a .first)) (c .before .before .before .before .before .loop .k) (c .before .before .before .before .before .loop .inv .1) e (a .count) (c .before .before .before .before .loop-test .taken) (c .before .before .before .before .before .before .before .before .before .before .before .before .before .before .before .before .pre .1))
+
+add-k : tie.Need-add-k Inv-loop μ-loop
+add-k c = omega (arith, c .before .before .before .before .before .before .before .before .before .before .before .loop-test .taken, c .before .before .before .before .before .before .before .before .before .before .before .before .before .before .before .before .before .before .before .before .before .before .before .fits .count)
 
 loop-again : tie.Need-loop-again Inv-loop μ-loop
 loop-again c =
-    let a = c .before .before .before .before .before .before .before .before .before .before .before .before .before .before .before .before .before .before .before .before .before .before .args in
+    let a = c .before .before .before .before .before .before .before .before .before .before .before .before .before .before .before .before .before .before .before .before .before .before .before .args in
     let e = copied-slot (idsOf (a .codes .now) (a .escape-places .now) (a .escape-ids .now) (a .base)) (a .start) (c .before .before .before .before .before .before .before .before .before .before .before .before .loop .k) (c .before .before .before .before .before .before .before .before .before .before .id-held .ensures) (a .slot-labels .now) (a .slot-weak .now) (a .keeps) (a .first) in
     (search needs, tab-more (copiedSlot (idsOf (a .codes .now) (a .escape-places .now) (a .escape-ids .now) (a .base)) (a .start) (a .slot-labels .now) (a .slot-weak .now) (a .keeps) (a .first)) (c .before .before .before .before .before .before .before .before .before .before .before .before .loop .k) (c .before .before .before .before .before .before .before .before .before .before .before .before .loop .inv .1) e (c .before .before .before .before .before .before .append-slot .ensures))
 
@@ -43,7 +46,7 @@ same-length-3 c = same-weak (c .before .loop .inv .1)
 
 returns : tie.Need-returns Inv-loop μ-loop
 returns c =
-    let a = c .before .before .before .before .before .before .before .before .before .before .before .args in
+    let a = c .before .before .before .before .before .before .before .before .before .before .before .before .args in
     tab-end (copiedSlot (idsOf (a .codes .now) (a .escape-places .now) (a .escape-ids .now) (a .base)) (a .start) (a .slot-labels .now) (a .slot-weak .now) (a .keeps) (a .first)) (c .before .loop .k) (a .count) (omega arith) (c .before .loop .inv .1)
 
 pub slots-spec : {M : Type 1} → statement M
@@ -57,7 +60,7 @@ slots-spec =
     (λ c κs. search needs)
     (λ c. search needs)
     append-slot-requires
-    (λ c. search needs)
+    add-k
     (λ c. search needs)
     loop-again
     same-length

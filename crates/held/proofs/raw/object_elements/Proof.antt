@@ -6,13 +6,13 @@ use Rattle.held.proofs.raw.object_elements.Tie as tie
 
 returns : tie.Need-returns
 returns c =
-    let a = c .before .before .before .before .before .before .args in
+    let a = c .before .before .before .before .before .before .before .args in
     rw (← no-elements (a .bytes .now) (a .size) (a .start) (a .kind) (a .count) (c .if1 .taken)) appended-none
 
 elements-requires : tie.Need-elements-requires
 elements-requires c κs =
-    let a = c .before .before .before .before .before .before .before .before .before .args in
-    (c .before .before .before .before .before .before .before .before .before .pre .0 (c .before .before .before .if1 .left), rw (some-elements (a .bytes .now) (a .size) (a .start) (a .kind) (a .count) (c .before .before .before .if1 .left)) (c .before .before .before .before .before .before .before .before .before .pre .1))
+    let a = c .before .before .before .before .before .before .before .before .before .before .args in
+    (c .before .before .before .before .before .before .before .before .before .before .pre .0 (c .before .before .before .if1 .left), rw (some-elements (a .bytes .now) (a .size) (a .start) (a .kind) (a .count) (c .before .before .before .if1 .left)) (c .before .before .before .before .before .before .before .before .before .before .pre .1))
 
 same-length : tie.Need-same-length
 same-length c = same-targets (c .before .before .before .before .before .before .elements .ensures)
@@ -25,7 +25,7 @@ same-length-3 c = same-weak (c .before .before .before .before .before .before .
 
 returns-2 : tie.Need-returns-2
 returns-2 c =
-    let a = c .before .before .before .before .before .before .before .before .before .before .before .before .before .before .before .before .args in
+    let a = c .before .before .before .before .before .before .before .before .before .before .before .before .before .before .before .before .before .args in
     rw (← some-elements (a .bytes .now) (a .size) (a .start) (a .kind) (a .count) (c .before .before .before .before .before .before .before .before .before .before .if1 .left)) (c .before .before .before .before .before .before .elements .ensures)
 
 pub object-elements-spec : {M : Type 1} → statement M

@@ -12,24 +12,24 @@ use Rattle.held.proofs.raw.slots.Statement.{statement}
 use Rattle.held.proofs.raw.slots.Tie as tie
 
 abbrev Inv-loop : tie.InvT-loop
-Inv-loop ids bytes size start body slot-offsets slot-labels slot-weak keeps first count guess targets₀ labels₀ weak₀ s₀ k₀ targets labels weak s k =
+Inv-loop ids bytes size start body slot-offsets slot-labels slot-weak keeps first count hints scale targets₀ labels₀ weak₀ s₀ k₀ targets labels weak s k =
     (k ≤ count) × (slotsRead slot-offsets size body first k ≡ k) × Appended ids (tab (rawSlot bytes size start slot-offsets slot-labels slot-weak keeps first) k) s₀ s targets₀ labels₀ weak₀ targets labels weak
 
 abbrev μ-loop : tie.MeasureT-loop
-μ-loop ids bytes size start body slot-offsets slot-labels slot-weak keeps first count guess targets₀ labels₀ weak₀ s₀ k₀ targets labels weak s k = count - k
+μ-loop ids bytes size start body slot-offsets slot-labels slot-weak keeps first count hints scale targets₀ labels₀ weak₀ s₀ k₀ targets labels weak s k = count - k
 
 -- slot k ends within the body
-ends : (c : tie.Else1 Inv-loop μ-loop) → c .before .before .before .before .before .before .before .before .before .before .before .before .before .args .slot-offsets .now ! (c .before .before .before .before .before .before .before .before .before .before .before .before .before .args .first + c .before .before .before .before .loop .k) + c .before .before .before .before .before .before .before .before .before .before .before .before .before .args .size ≤ c .before .before .before .before .before .before .before .before .before .before .before .before .before .args .body
+ends : (c : tie.Else1 Inv-loop μ-loop) → c .before .before .before .before .before .before .before .before .before .before .before .before .before .before .args .slot-offsets .now ! (c .before .before .before .before .before .before .before .before .before .before .before .before .before .before .args .first + c .before .before .before .before .loop .k) + c .before .before .before .before .before .before .before .before .before .before .before .before .before .before .args .size ≤ c .before .before .before .before .before .before .before .before .before .before .before .before .before .before .args .body
 ends c = omega (arith, c .before .spot-of .ensures .0, c .if1 .left)
 
 loop-holds : tie.Need-loop-holds Inv-loop μ-loop
 loop-holds c =
-    let a = c .before .before .before .before .before .before .before .before .args in
+    let a = c .before .before .before .before .before .before .before .before .before .args in
     (search needs, read-none (a .slot-offsets .now) (a .size) (a .body) (a .first) 0, tab-none _)
 
 add-if1 : tie.Need-add-if1 Inv-loop μ-loop
 add-if1 c =
-    omega (arith, c .spot-of .ensures .1, c .before .before .before .before .before .before .before .before .before .before .before .before .pre .1 .0 .short)
+    omega (arith, c .spot-of .ensures .1, c .before .before .before .before .before .before .before .before .before .before .before .before .before .pre .1 .0 .short)
 
 same-length : tie.Need-same-length Inv-loop μ-loop
 same-length c = same-targets (c .before .before .before .before .loop .inv .2)
@@ -42,27 +42,30 @@ same-length-3 c = same-weak (c .before .before .before .before .loop .inv .2)
 
 returns : tie.Need-returns Inv-loop μ-loop
 returns c =
-    let a = c .before .before .before .before .before .before .before .before .before .before .before .before .before .args in
+    let a = c .before .before .before .before .before .before .before .before .before .before .before .before .before .before .args in
     let h : a .body < a .slot-offsets .now ! (a .first + c .before .before .before .before .loop .k) + a .size = omega (arith, c .before .spot-of .ensures .0, c .if1 .taken) in
     tab-end (rawSlot (a .bytes .now) (a .size) (a .start) (a .slot-offsets .now) (a .slot-labels .now) (a .slot-weak .now) (a .keeps) (a .first)) (c .before .before .before .before .loop .k) _ (sym (read-stop (a .slot-offsets .now) (a .size) (a .body) (a .first) (c .before .before .before .before .loop .k) (c .before .before .before .before .loop .inv .1) h (a .count) (c .before .before .before .before .loop .inv .0))) (c .before .before .before .before .loop .inv .2)
 
 add-id-at-bytes : tie.Need-add-id-at-bytes Inv-loop μ-loop
 add-id-at-bytes c =
-    omega (arith, c .if1 .left, c .before .before .before .before .before .before .before .before .before .before .before .before .before .pre .1 .0 .inside)
+    omega (arith, c .if1 .left, c .before .before .before .before .before .before .before .before .before .before .before .before .before .before .pre .1 .0 .inside)
 
 id-at-bytes-requires : tie.Need-id-at-bytes-requires Inv-loop μ-loop
 id-at-bytes-requires c κs =
-    (omega (arith, c .if1 .left, c .before .before .before .before .before .before .before .before .before .before .before .before .before .pre .1 .0 .inside), c .before .before .before .before .before .before .before .before .before .before .before .before .before .pre .1 .0 .short)
+    (omega (arith, c .if1 .left, c .before .before .before .before .before .before .before .before .before .before .before .before .before .before .pre .1 .0 .inside), c .before .before .before .before .before .before .before .before .before .before .before .before .before .before .pre .1 .0 .short)
 
 append-slot-requires : tie.Need-append-slot-requires Inv-loop μ-loop
 append-slot-requires c κs =
-    let a = c .before .before .before .before .before .before .before .before .before .before .before .before .before .before .before .before .before .args in
+    let a = c .before .before .before .before .before .before .before .before .before .before .before .before .before .before .before .before .before .before .args in
     let e = raw-slot (a .bytes .now) (a .size) (a .start) (a .slot-offsets .now) (a .slot-labels .now) (a .slot-weak .now) (a .keeps) (a .first) (c .before .before .before .before .before .before .before .before .loop .k) (c .before .before .before .before .before .spot-of .ensures .0) (c .before .before .before .id-at-bytes .ensures) in
-    ((omega (arith, c .before .before .before .before .before .before .before .before .before .before .before .before .before .before .before .before .before .pre .0 .1, c .before .before .before .before .before .before .before .loop-test .taken), omega (arith, c .before .before .before .before .before .before .before .before .before .before .before .before .before .before .before .before .before .pre .0 .2, c .before .before .before .before .before .before .before .loop-test .taken)), tab-room (rawSlot (a .bytes .now) (a .size) (a .start) (a .slot-offsets .now) (a .slot-labels .now) (a .slot-weak .now) (a .keeps) (a .first)) (c .before .before .before .before .before .before .before .before .loop .k) (c .before .before .before .before .before .before .before .before .loop .inv .2) e _ (read-more (a .slot-offsets .now) (a .size) (a .body) (a .first) (c .before .before .before .before .before .before .before .before .loop .k) (c .before .before .before .before .before .before .before .before .loop .inv .1) (ends (c .before .before .before .before)) (a .count) (c .before .before .before .before .before .before .before .loop-test .taken)) (c .before .before .before .before .before .before .before .before .before .before .before .before .before .before .before .before .before .pre .1 .1))
+    ((omega (arith, c .before .before .before .before .before .before .before .before .before .before .before .before .before .before .before .before .before .before .pre .0 .1, c .before .before .before .before .before .before .before .loop-test .taken), omega (arith, c .before .before .before .before .before .before .before .before .before .before .before .before .before .before .before .before .before .before .pre .0 .2, c .before .before .before .before .before .before .before .loop-test .taken)), tab-room (rawSlot (a .bytes .now) (a .size) (a .start) (a .slot-offsets .now) (a .slot-labels .now) (a .slot-weak .now) (a .keeps) (a .first)) (c .before .before .before .before .before .before .before .before .loop .k) (c .before .before .before .before .before .before .before .before .loop .inv .2) e _ (read-more (a .slot-offsets .now) (a .size) (a .body) (a .first) (c .before .before .before .before .before .before .before .before .loop .k) (c .before .before .before .before .before .before .before .before .loop .inv .1) (ends (c .before .before .before .before)) (a .count) (c .before .before .before .before .before .before .before .loop-test .taken)) (c .before .before .before .before .before .before .before .before .before .before .before .before .before .before .before .before .before .before .pre .1 .1))
+
+add-k : tie.Need-add-k Inv-loop μ-loop
+add-k c = omega (arith, c .before .before .before .before .before .before .before .before .before .before .before .before .before .before .loop-test .taken, c .before .before .before .before .before .before .before .before .before .before .before .before .before .before .before .before .before .before .before .before .before .before .before .before .before .fits .count)
 
 loop-again : tie.Need-loop-again Inv-loop μ-loop
 loop-again c =
-    let a = c .before .before .before .before .before .before .before .before .before .before .before .before .before .before .before .before .before .before .before .before .before .before .before .before .args in
+    let a = c .before .before .before .before .before .before .before .before .before .before .before .before .before .before .before .before .before .before .before .before .before .before .before .before .before .args in
     let e = raw-slot (a .bytes .now) (a .size) (a .start) (a .slot-offsets .now) (a .slot-labels .now) (a .slot-weak .now) (a .keeps) (a .first) (c .before .before .before .before .before .before .before .before .before .before .before .before .before .before .before .loop .k) (c .before .before .before .before .before .before .before .before .before .before .before .before .spot-of .ensures .0) (c .before .before .before .before .before .before .before .before .before .before .id-at-bytes .ensures) in
     (search needs, read-next (a .slot-offsets .now) (a .size) (a .body) (a .first) (c .before .before .before .before .before .before .before .before .before .before .before .before .before .before .before .loop .k) (c .before .before .before .before .before .before .before .before .before .before .before .before .before .before .before .loop .inv .1) (ends (c .before .before .before .before .before .before .before .before .before .before .before)), tab-more (rawSlot (a .bytes .now) (a .size) (a .start) (a .slot-offsets .now) (a .slot-labels .now) (a .slot-weak .now) (a .keeps) (a .first)) (c .before .before .before .before .before .before .before .before .before .before .before .before .before .before .before .loop .k) (c .before .before .before .before .before .before .before .before .before .before .before .before .before .before .before .loop .inv .2) e (c .before .before .before .before .before .before .append-slot .ensures))
 
@@ -77,7 +80,7 @@ same-length-6 c = same-weak (c .before .loop .inv .2)
 
 returns-2 : tie.Need-returns-2 Inv-loop μ-loop
 returns-2 c =
-    let a = c .before .before .before .before .before .before .before .before .before .before .args in
+    let a = c .before .before .before .before .before .before .before .before .before .before .before .args in
     let e : c .before .loop .k ≡ a .count = omega arith in
     tab-end (rawSlot (a .bytes .now) (a .size) (a .start) (a .slot-offsets .now) (a .slot-labels .now) (a .slot-weak .now) (a .keeps) (a .first)) (c .before .loop .k) _ (sym (c .before .loop .inv .1) ∙ ap (slotsRead (a .slot-offsets .now) (a .size) (a .body) (a .first)) e) (c .before .loop .inv .2)
 
@@ -101,7 +104,7 @@ slots-spec =
     id-at-bytes-requires
     (λ c. search needs)
     append-slot-requires
-    (λ c. search needs)
+    add-k
     (λ c. search needs)
     loop-again
     same-length-4
