@@ -25,6 +25,7 @@ macro_rules! call {
     };
     ([$(#[$about:meta])* $name:ident] [$($c:tt)*] [$($safe:tt)*] [$($pass:tt)*]) => {
         $(#[$about])*
+        #[inline]
         pub(crate) fn $name($($safe)*) {
             unsafe extern "C" {
                 fn $name($($c)*);
@@ -173,41 +174,54 @@ calls! {
         answer: &mut [u64; 9],
     )
 
+    /// The rows written, zeros behind them; or ROOM, and all three columns zero.
+    pub extern "C" fn yokefathom_fill_columns(
+        from_offsets: &[u32],
+        from_labels: &[u32],
+        from_weak: &[u8],
+        offsets: &mut [u32],
+        labels: &mut [u32],
+        weak: &mut [u8],
+        answer: &mut [u64; 4],
+    )
+
     /// Where the edges of an object sit in the target column.
     pub extern "C" fn yokefathom_span(
+        object: usize,
         bases: &[u64],
         short: &[u16],
         long_at: &[u32],
         long_value: &[u64],
         codes: &[u16],
         targets: &[u32],
-        object: usize,
         answer: &mut [u64; 4],
     )
 
     /// How many edges an object has.
     pub extern "C" fn yokefathom_edge_count(
+        object: usize,
         bases: &[u64],
         short: &[u16],
         long_at: &[u32],
         long_value: &[u64],
         codes: &[u16],
         targets: &[u32],
-        object: usize,
         answer: &mut [u64; 4],
     )
 
     /// The rows of an object's weak pairs.
     pub extern "C" fn yokefathom_weak_referents(
+        object: usize,
         short: &[u16],
         weak_from: &[u32],
         weak_to: &[u32],
-        object: usize,
         answer: &mut [u64; 4],
     )
 
     /// The field label of an edge of an object, or just `ARRAY_ELEMENT` for an element.
     pub extern "C" fn yokefathom_coarse_label(
+        object: usize,
+        edge: usize,
         bases: &[u64],
         short: &[u16],
         long_at: &[u32],
@@ -217,13 +231,13 @@ calls! {
         fields: &[u32],
         escape_at: &[u64],
         escape_label: &[u32],
-        object: usize,
-        edge: usize,
         answer: &mut [u64; 4],
     )
 
     /// The label of an edge of an object, an element's with its index.
     pub extern "C" fn yokefathom_exact_label(
+        object: usize,
+        edge: usize,
         bases: &[u64],
         short: &[u16],
         long_at: &[u32],
@@ -233,13 +247,13 @@ calls! {
         fields: &[u32],
         escape_at: &[u64],
         escape_label: &[u32],
-        object: usize,
-        edge: usize,
         answer: &mut [u64; 4],
     )
 
     /// The exact label of an object's first edge to a target.
     pub extern "C" fn yokefathom_label_of(
+        object: usize,
+        target: u32,
         bases: &[u64],
         short: &[u16],
         long_at: &[u32],
@@ -249,13 +263,13 @@ calls! {
         fields: &[u32],
         escape_at: &[u64],
         escape_label: &[u32],
-        object: usize,
-        target: u32,
         answer: &mut [u64; 4],
     )
 
     /// The target of a field of an object.
     pub extern "C" fn yokefathom_field(
+        object: usize,
+        label: u32,
         bases: &[u64],
         short: &[u16],
         long_at: &[u32],
@@ -266,13 +280,13 @@ calls! {
         escape_at: &[u64],
         escape_label: &[u32],
         table: &[u16],
-        object: usize,
-        label: u32,
         answer: &mut [u64; 4],
     )
 
     /// The target of a field of an object, or where it has none its smallest weak target.
     pub extern "C" fn yokefathom_referent(
+        object: usize,
+        label: u32,
         bases: &[u64],
         short: &[u16],
         long_at: &[u32],
@@ -285,23 +299,21 @@ calls! {
         table: &[u16],
         weak_from: &[u32],
         weak_to: &[u32],
-        object: usize,
-        label: u32,
         answer: &mut [u64; 4],
     )
 
     /// Edge k of an object whose span is given, where the edges before it were read in order: `expected` is 0 for the first, and then what the edge before gave.
     pub extern "C" fn yokefathom_edge(
+        object: usize,
+        start: usize,
+        end: usize,
+        k: usize,
+        expected: u32,
         targets: &[u32],
         codes: &[u16],
         fields: &[u32],
         escape_at: &[u64],
         escape_label: &[u32],
-        start: usize,
-        end: usize,
-        object: usize,
-        k: usize,
-        expected: u32,
         answer: &mut [u64; 5],
     )
 }

@@ -16,13 +16,15 @@
 //! # Ok(())
 //! # }
 //! ```
+#![warn(missing_docs)]
+
 mod ffi;
 mod input;
 mod refusal;
 #[doc(hidden)]
 pub mod room;
 
-pub use input::{Classes, Input, Objects, Parts, ReferencePolicy, References, Schema, Slots, Statics};
+pub use input::{Classes, Input, Objects, Parts, ReferencePolicy, References, Schema, SlotColumns, Slots, Statics};
 pub use refusal::Refusal;
 use room::{CodedRoom, Room};
 
@@ -68,26 +70,34 @@ struct Counts {
     dangling: u64,
 }
 
-/// The numbers of an answer: how many there are, then each.
-fn said(answer: &[u64]) -> &[u64] {
-    &answer[1..=answer[0] as usize]
+// An answer is how many numbers document 01 gives it, those numbers, then zeros: first 0 with the values, or the number of a refusal.
+
+/// The refusal that an answer is. Questions of objects that exist do not come here.
+#[cold]
+fn refused(answer: &[u64]) -> Refusal {
+    Refusal::from_numbers(&answer[1..]).expect("an answer is a value or a refusal")
 }
 
 /// The values of an answer, or the refusal that it is.
+#[inline]
 fn values(answer: &[u64]) -> Result<&[u64], Refusal> {
-    let says = said(answer);
-    match Refusal::from_numbers(says) {
-        Some(refusal) => Err(refusal),
-        None => Ok(&says[1..]),
-    }
+    if answer[1] == 0 { Ok(&answer[2..]) } else { Err(refused(answer)) }
 }
 
-/// Of an answer that may be nothing: the value.
-fn value_or_none(answer: &[u64]) -> Result<Option<u32>, Refusal> {
-    Ok(values(answer)?.first().map(|&value| value as u32))
+/// The one value of an answer.
+#[inline]
+fn value(answer: &[u64; 4]) -> Result<u64, Refusal> {
+    values(answer).map(|values| values[0])
 }
 
-fn counts(answer: &[u64]) -> Result<Counts, Refusal> {
+/// The one value of an answer that may also be nothing, which is an answer of one number.
+#[inline]
+fn value_or_none(answer: &[u64; 4]) -> Result<Option<u32>, Refusal> {
+    let value = value(answer)?;
+    Ok((answer[0] > 1).then_some(value as u32))
+}
+
+fn counts(answer: &[u64; 9]) -> Result<Counts, Refusal> {
     let values = values(answer)?;
     let at = |k: usize| values[k] as usize;
     Ok(Counts {
@@ -225,68 +235,75 @@ impl Graph {
         &self.targets
     }
 
+    /// How many edges there are in all.
     pub fn edge_count(&self) -> u64 {
         self.targets.len() as u64
     }
 
     /// Where `object`'s edges sit in [`Graph::all_targets`].
+    #[inline]
     pub fn span(&self, object: u32) -> Result<std::ops::Range<usize>, Refusal> {
         let mut answer = [0; 4];
         ffi::yokefathom_span(
-            &self.bases, &self.short, &self.long_at, &self.long_value, &self.codes, &self.targets, object as usize, &mut answer,
+            object as usize, &self.bases, &self.short, &self.long_at, &self.long_value, &self.codes, &self.targets, &mut answer,
         );
         values(&answer).map(|at| at[0] as usize..at[1] as usize)
     }
 
     /// How many edges an object has.
+    #[inline]
     pub fn degree(&self, object: u32) -> Result<usize, Refusal> {
         let mut answer = [0; 4];
         ffi::yokefathom_edge_count(
-            &self.bases, &self.short, &self.long_at, &self.long_value, &self.codes, &self.targets, object as usize, &mut answer,
+            object as usize, &self.bases, &self.short, &self.long_at, &self.long_value, &self.codes, &self.targets, &mut answer,
         );
-        values(&answer).map(|count| count[0] as usize)
+        value(&answer).map(|count| count as usize)
     }
 
     /// One object's edges.
+    #[inline]
     pub fn edges(&self, object: u32) -> Result<Edges<'_>, Refusal> {
         self.span(object).map(|span| Edges { graph: self, object, span })
     }
 
     /// The target of `object`'s edge labelled `label`.
+    #[inline]
     pub fn field(&self, object: u32, label: u32) -> Result<Option<u32>, Refusal> {
         let mut answer = [0; 4];
         ffi::yokefathom_field(
-            &self.bases, &self.short, &self.long_at, &self.long_value, &self.codes, &self.targets,
-            &self.fields, &self.escape_at, &self.escape_label, &self.table, object as usize, label, &mut answer,
+            object as usize, label, &self.bases, &self.short, &self.long_at, &self.long_value, &self.codes, &self.targets,
+            &self.fields, &self.escape_at, &self.escape_label, &self.table, &mut answer,
         );
         value_or_none(&answer)
     }
 
     /// The referent of a reference object, weak or strong: the field, or else the smallest weak target.
+    #[inline]
     pub fn referent(&self, object: u32, label: u32) -> Result<Option<u32>, Refusal> {
         let mut answer = [0; 4];
         ffi::yokefathom_referent(
-            &self.bases, &self.short, &self.long_at, &self.long_value, &self.codes, &self.targets,
-            &self.fields, &self.escape_at, &self.escape_label, &self.table, &self.weak_from, &self.weak_to,
-            object as usize, label, &mut answer,
+            object as usize, label, &self.bases, &self.short, &self.long_at, &self.long_value, &self.codes, &self.targets,
+            &self.fields, &self.escape_at, &self.escape_label, &self.table, &self.weak_from, &self.weak_to, &mut answer,
         );
         value_or_none(&answer)
     }
 
     /// The exact label of the first edge from one object to another.
+    #[inline]
     pub fn label_of(&self, from: u32, to: u32) -> Result<Option<u32>, Refusal> {
         let mut answer = [0; 4];
         ffi::yokefathom_label_of(
-            &self.bases, &self.short, &self.long_at, &self.long_value, &self.codes, &self.targets,
-            &self.fields, &self.escape_at, &self.escape_label, from as usize, to, &mut answer,
+            from as usize, to, &self.bases, &self.short, &self.long_at, &self.long_value, &self.codes, &self.targets, &self.fields,
+            &self.escape_at, &self.escape_label, &mut answer,
         );
         value_or_none(&answer)
     }
 
     /// The targets that `object` holds by references that the policy does not keep, rising.
+    #[inline]
     pub fn weak_referents(&self, object: u32) -> Result<&[u32], Refusal> {
         let mut answer = [0; 4];
-        ffi::yokefathom_weak_referents(&self.short, &self.weak_from, &self.weak_to, object as usize, &mut answer);
+        ffi::yokefathom_weak_referents(object as usize, &self.short, &self.weak_from, &self.weak_to, &mut answer);
         values(&answer).map(|rows| &self.weak_to[rows[0] as usize..rows[1] as usize])
     }
 
@@ -336,17 +353,29 @@ impl Graph {
 /// The used parts of a graph's columns, as document 01 lays them out.
 #[derive(Clone, Copy, Debug, PartialEq, Eq)]
 pub struct Columns<'a> {
+    /// Every edge's target, object by object.
     pub targets: &'a [u32],
+    /// The objects of the weak pairs.
     pub weak_from: &'a [u32],
+    /// The targets of the weak pairs.
     pub weak_to: &'a [u32],
+    /// Every 256th offset.
     pub bases: &'a [u64],
+    /// Every offset above its base; 65,535 stands for one of the long list.
     pub short: &'a [u16],
+    /// The places of the long offsets.
     pub long_at: &'a [u32],
+    /// The long offsets, whole.
     pub long_value: &'a [u64],
+    /// The label of each field code.
     pub fields: &'a [u32],
+    /// The code of each name, then of the loader, then of any other label; 32,767 where there is none.
     pub table: &'a [u16],
+    /// The edges whose labels have no code.
     pub escape_at: &'a [u64],
+    /// Their labels, whole.
     pub escape_label: &'a [u32],
+    /// Every edge's label in two bytes.
     pub codes: &'a [u16],
 }
 
@@ -359,57 +388,68 @@ pub struct Edges<'a> {
 }
 
 impl<'a> Edges<'a> {
+    /// How many edges the object has.
+    #[inline]
     pub fn len(&self) -> usize {
         self.span.len()
     }
 
+    /// Whether it has none.
+    #[inline]
     pub fn is_empty(&self) -> bool {
         self.span.is_empty()
     }
 
+    /// Every edge's target, in order: a part of [`Graph::all_targets`].
+    #[inline]
     pub fn targets(&self) -> &'a [u32] {
         &self.graph.targets[self.span.clone()]
     }
 
     /// Edge `k`'s field label, or just [`ARRAY_ELEMENT`] for an element.
+    #[inline]
     pub fn coarse(&self, k: usize) -> Result<u32, Refusal> {
         let (graph, mut answer) = (self.graph, [0; 4]);
         ffi::yokefathom_coarse_label(
-            &graph.bases, &graph.short, &graph.long_at, &graph.long_value, &graph.codes, &graph.targets,
-            &graph.fields, &graph.escape_at, &graph.escape_label, self.object as usize, k, &mut answer,
+            self.object as usize, k, &graph.bases, &graph.short, &graph.long_at, &graph.long_value, &graph.codes, &graph.targets,
+            &graph.fields, &graph.escape_at, &graph.escape_label, &mut answer,
         );
-        values(&answer).map(|label| label[0] as u32)
+        value(&answer).map(|label| label as u32)
     }
 
     /// Edge `k`'s label; an element's index adds up the gaps before it.
+    #[inline]
     pub fn exact(&self, k: usize) -> Result<u32, Refusal> {
         let (graph, mut answer) = (self.graph, [0; 4]);
         ffi::yokefathom_exact_label(
-            &graph.bases, &graph.short, &graph.long_at, &graph.long_value, &graph.codes, &graph.targets,
-            &graph.fields, &graph.escape_at, &graph.escape_label, self.object as usize, k, &mut answer,
+            self.object as usize, k, &graph.bases, &graph.short, &graph.long_at, &graph.long_value, &graph.codes, &graph.targets,
+            &graph.fields, &graph.escape_at, &graph.escape_label, &mut answer,
         );
-        values(&answer).map(|label| label[0] as u32)
+        value(&answer).map(|label| label as u32)
     }
 
     /// The exact label of the first edge to a target.
+    #[inline]
     pub fn label_of(&self, target: u32) -> Result<Option<u32>, Refusal> {
         self.graph.label_of(self.object, target)
     }
 
     /// Every edge's label, in order.
+    #[inline]
     pub fn labels(&self) -> impl Iterator<Item = u32> + use<'a> {
         self.iter().map(|(_, label)| label)
     }
 
     /// `(target, label)` pairs, in order: each edge is read where the one before left off.
+    #[inline]
     pub fn iter(&self) -> impl Iterator<Item = (u32, u32)> + use<'a> {
         let (graph, object, span) = (self.graph, self.object, self.span.clone());
         let mut expected = 0;
         (0..span.len()).map(move |k| {
             let mut answer = [0; 5];
             ffi::yokefathom_edge(
-                &graph.targets, &graph.codes, &graph.fields, &graph.escape_at, &graph.escape_label,
-                span.start, span.end, object as usize, k, expected, &mut answer,
+                object as usize, span.start, span.end, k, expected, &graph.targets, &graph.codes, &graph.fields, &graph.escape_at,
+                &graph.escape_label, &mut answer,
             );
             let edge = values(&answer).expect("an edge of a built graph");
             expected = edge[2] as u32;
@@ -418,6 +458,7 @@ impl<'a> Edges<'a> {
     }
 
     /// `(target, label)` pairs with every element's label just [`ARRAY_ELEMENT`].
+    #[inline]
     pub fn iter_coarse(&self) -> impl Iterator<Item = (u32, u32)> + use<'a> {
         let edges = self.clone();
         (0..self.len()).map(move |k| (edges.targets()[k], edges.coarse(k).expect("an edge of a built graph")))

@@ -23,7 +23,12 @@ pub enum Refusal {
     /// A buffer that is smaller than its need. [`Graph`](crate::Graph) lends enough, so a host does not see this one.
     Room(u64),
     /// Columns handed to `from_parts` that break their rules.
-    Parts { column: u64, position: u64 },
+    Parts {
+        /// 1 offsets, 2 labels, 3 targets, 4 weak pairs, 5 roots.
+        column: u64,
+        /// The first wrong place in that column.
+        position: u64,
+    },
     /// A question about an object, or an edge of an object, that does not exist.
     Index(u64),
     /// An entry that cannot be read back. Never on the columns that a build left.

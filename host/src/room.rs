@@ -80,10 +80,10 @@ impl Bounds {
     }
 }
 
-/// How many ids the references can hold, unless the parts of objects share them.
+/// How many ids the references can hold, unless the parts of objects share them. The copied route has no place for a null.
 fn held(references: &References<'_>) -> u64 {
     match references {
-        References::Copied { codes, .. } => codes.len() as u64,
+        References::Copied { codes, .. } => codes.iter().filter(|&&code| code != 0).count() as u64,
         References::Raw { bytes, id_size, .. } => (bytes.len() / (*id_size).max(1)) as u64,
     }
 }

@@ -15,7 +15,7 @@ use Rattle.rules.specs.Labels.{Coded, fieldCode, codesFor, coded, coarseLabel, 
 use Rattle.rules.specs.Needs.{objectsOf, fieldsFor, labelColumns}
 use Rattle.rules.specs.Parts.{degree}
 use Rattle.rules.specs.Questions.{Columns, columnsOf, edgesAt, weakIn, coarse, asked, plainly, labelReads, readsBack, objectsIn, offsetAt, edgesIn, edgesRead, coarseIn, exactIn, labelIn, exactOf, labelOf, Promised}
-use Rattle.rules.specs.Questions.{fieldIn as fieldOn, referentIn as referentOn}
+use Rattle.rules.specs.Questions.{fieldIn, referentIn}
 use Rattle.rules.proofs.Acceptance.{Passed, names-few}
 use Rattle.rules.proofs.Asked.{offset-back, objects-same, span-plain, count-plain, coarse-plain, exact-plain, label-plain, field-plain, weak-plain, referent-plain}
 use Rattle.rules.proofs.Codes.{own-at, code-at, coarse-code, read-labels, fields-few}
@@ -24,8 +24,8 @@ use Rattle.rules.proofs.Laid.{build-meets, objects-are}
 use Rattle.rules.proofs.Meets.{Meets, own}
 use Rattle.rules.proofs.Passes.{edges-few}
 use Rattle.query.specs.Reading.{countOf, weakOf, partOf}
-use Rattle.query.specs.Labelled.{spanIn, edgeOf, coarseAt, Labelled}
-use Rattle.query.specs.Sought.{fieldIn, referentIn, OneCode}
+use Rattle.query.specs.Labelled.{spanIn, edgeAsked, coarseAt, Labelled}
+use Rattle.query.specs.Sought.{fieldFound, referentFound, OneCode}
 use Rattle.query.proofs.Spans.{span-promised, count-promised, weak-promised, targets-read}
 use Rattle.query.proofs.Labels.{coarse-promised, label-reads}
 use Rattle.query.proofs.Promises.{field-promised, referent-promised}
@@ -102,7 +102,7 @@ module _ (s : Schema) (p : Parts) (law : Meets (s .names) p) (small : s .names �
     unfolding coarseAt
     coarse-kept k = built (coarse-promised g o k) (coarse-plain s p law few wide o k) (never-12-edge m o k coarse (edgesAt p o))
 
-    pub exact-kept : (k : ℕ) {says : List ℕ} → Labelled o (edgeOf (spanIn (strong g) o) k) says (exactOf (strong g) o k) → says ≡ plainly m o (exactIn (edgesAt p o) k)
+    pub exact-kept : (k : ℕ) {says : List ℕ} → Labelled o (edgeAsked (spanIn (strong g) o) k) says (exactOf (strong g) o k) → says ≡ plainly m o (exactIn (edgesAt p o) k)
     unfolding exactOf asked readsBack edgesRead
     exact-kept k w = built (w .promised) (exact-plain s p law few wide o k) (never-12-edge m o k (λ l. l) (edgesAt p o))
 
@@ -110,15 +110,15 @@ module _ (s : Schema) (p : Parts) (law : Meets (s .names) p) (small : s .names �
     unfolding labelOf asked readsBack edgesRead
     label-kept t w = built (w .promised) (label-plain s p law few wide o t) (never-12 m o _)
 
-    pub field-kept : (table : List ℕ) (l : ℕ) → fieldIn (strong g) table o l ≡ plainly m o (0 ∷ fieldOn (edgesAt p o) l)
-    unfolding fieldIn
+    pub field-kept : (table : List ℕ) (l : ℕ) → fieldFound (strong g) table o l ≡ plainly m o (0 ∷ fieldIn (edgesAt p o) l)
+    unfolding fieldFound
     field-kept table l = built (field-promised g table o l coded-so) (field-plain s p law few wide o l) (never-12 m o _)
 
     module _ (even : length (p .weakFrom) ≡ length (p .weakTo)) where
       pub weak-kept : weakOf (length (g .offsets .short)) (g .weakFrom) (g .weakTo) o ≡ plainly m o (0 ∷ rank (p .weakFrom) o ∷ rank (p .weakFrom) (suc o) ∷ [])
       weak-kept = built (weak-promised g o) (weak-plain s p law few wide o even) (never-12 m o _)
 
-      pub referent-kept : (table : List ℕ) (l : ℕ) → referentIn g table o l ≡ plainly m o (0 ∷ referentOn (edgesAt p o) (weakIn (p .weakFrom) (p .weakTo) o) l)
+      pub referent-kept : (table : List ℕ) (l : ℕ) → referentFound g table o l ≡ plainly m o (0 ∷ referentIn (edgesAt p o) (weakIn (p .weakFrom) (p .weakTo) o) l)
       referent-kept table l = built (referent-promised g table o l coded-so) (referent-plain s p law few wide o even l) (never-12 m o _)
 
 -- The columns of an accepted build: the same question on the object's edges, as the input gives them.
@@ -148,7 +148,7 @@ module _ (x : Input) (h : Passed x) (o : ℕ) where
   unfolding coarseAt
   coarse-built k = built (coarse-promised c o k) (coarse-asked x h o k) (never-12-edge n o k coarse (edgesOf x o))
 
-  pub exact-built : (k : ℕ) {says : List ℕ} → Labelled o (edgeOf (spanIn (strong c) o) k) says (exactOf (strong c) o k) → says ≡ plainly n o (exactIn (edgesOf x o) k)
+  pub exact-built : (k : ℕ) {says : List ℕ} → Labelled o (edgeAsked (spanIn (strong c) o) k) says (exactOf (strong c) o k) → says ≡ plainly n o (exactIn (edgesOf x o) k)
   unfolding exactOf asked readsBack edgesRead
   exact-built k w = built (w .promised) (exact-asked x h o k) (never-12-edge n o k (λ l. l) (edgesOf x o))
 
@@ -162,9 +162,9 @@ module _ (x : Input) (h : Passed x) (o : ℕ) where
   pub one-code : o < objectsIn c → readsBack c o ≡ true → OneCode (c .labels) (offsetAt c o) (edgesIn c o)
   one-code = coded-so (x .schema) (graph x) (build-meets x h) (omega (arith, names-few x h)) labels-few o
 
-  pub field-built : (table : List ℕ) (l : ℕ) → fieldIn (strong c) table o l ≡ plainly n o (0 ∷ fieldOn (edgesOf x o) l)
-  unfolding fieldIn
+  pub field-built : (table : List ℕ) (l : ℕ) → fieldFound (strong c) table o l ≡ plainly n o (0 ∷ fieldIn (edgesOf x o) l)
+  unfolding fieldFound
   field-built table l = built (field-promised c table o l one-code) (field-asked x h o l) (never-12 n o _)
 
-  pub referent-built : (table : List ℕ) (l : ℕ) → referentIn c table o l ≡ plainly n o (0 ∷ referentOn (edgesOf x o) (weakTargets x o) l)
+  pub referent-built : (table : List ℕ) (l : ℕ) → referentFound c table o l ≡ plainly n o (0 ∷ referentIn (edgesOf x o) (weakTargets x o) l)
   referent-built table l = built (referent-promised c table o l one-code) (referent-asked x h o l) (never-12 n o _)

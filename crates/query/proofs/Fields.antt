@@ -18,7 +18,7 @@ use Rattle.query.specs.declared.field.Sought.{Sought}
 use Rattle.query.specs.declared.field.Sought.the-variants.{At, Nothing}
 use Rattle.query.specs.Reading.{weakOf}
 use Rattle.query.specs.Labelled.{spanIn}
-use Rattle.query.specs.Sought.{placed, elementAt, codeAt, codeBy, codeIn, stops, ifRead, decoded, soughtIn, targetOf, fieldIn, firstWeak, orWeak, referentIn}
+use Rattle.query.specs.Sought.{placed, elementAt, codeAt, codeBy, codeIn, stops, ifRead, decoded, soughtIn, targetOf, fieldFound, firstWeak, orWeak, referentFound}
 
 -- Which case of `codeBy` holds.
 module _ (fields table : List ℕ) (l s : ℕ) where
@@ -114,17 +114,17 @@ sought-within d table e n l {k} h = go (eqb l ARRAY-ELEMENT) (isElement l) (eqb 
     go false false true h = within-decoded d e n l k h
     go false false false h = within-placed (codeAt d e c) n k h
 
--- Which case of `fieldIn` holds.
+-- Which case of `fieldFound` holds.
 module _ (c : Columns) (table : List ℕ) (o l : ℕ) where
-  pub field-is : {a b : ℕ} {s : Sought} → spanIn c o ≡ 0 ∷ a ∷ b ∷ [] → s ≡ soughtIn (c .labels) table a (b - a) l → targetOf (c .targets) a o s ≡ fieldIn c table o l
-  unfolding fieldIn accepts
+  pub field-is : {a b : ℕ} {s : Sought} → spanIn c o ≡ 0 ∷ a ∷ b ∷ [] → s ≡ soughtIn (c .labels) table a (b - a) l → targetOf (c .targets) a o s ≡ fieldFound c table o l
+  unfolding fieldFound accepts
   field-is {a} {b} {s} e q = rw (e, q)
 
-  pub field-refused : {says : List ℕ} → says ≡ spanIn c o → accepts says ≡ false → says ≡ fieldIn c table o l
-  unfolding fieldIn
+  pub field-refused : {says : List ℕ} → says ≡ spanIn c o → accepts says ≡ false → says ≡ fieldFound c table o l
+  unfolding fieldFound
   field-refused {says} e f = let z : accepts (spanIn c o) ≡ false = ap accepts (sym e) ∙ f in rw z e
 
--- Which case of `firstWeak` and `referentIn` holds.
+-- Which case of `firstWeak` and `referentFound` holds.
 pub weak-empty : (a b : ℕ) (to : List ℕ) → b ≤ a → firstWeak (0 ∷ a ∷ b ∷ []) to ≡ 0 ∷ []
 unfolding firstWeak accepts
 weak-empty a b to l = rw (le-ltb a b l)
@@ -137,14 +137,14 @@ module _ (c : Columns) (table : List ℕ) (o l : ℕ) where
   abbrev weakly : List ℕ
   weakly = firstWeak (weakOf (length (c .offsets .short)) (c .weakFrom) (c .weakTo) o) (c .weakTo)
 
-  pub referent-field : {t : ℕ} → 0 ∷ t ∷ [] ≡ fieldIn c table o l → 0 ∷ t ∷ [] ≡ referentIn c table o l
-  unfolding referentIn accepts allOf
+  pub referent-field : {t : ℕ} → 0 ∷ t ∷ [] ≡ fieldFound c table o l → 0 ∷ t ∷ [] ≡ referentFound c table o l
+  unfolding referentFound accepts allOf
   referent-field e = ap (λ (f : List ℕ). orWeak f weakly) e
 
-  pub referent-weak : {says : List ℕ} → 0 ∷ [] ≡ fieldIn c table o l → says ≡ weakly → says ≡ referentIn c table o l
-  unfolding referentIn accepts allOf
+  pub referent-weak : {says : List ℕ} → 0 ∷ [] ≡ fieldFound c table o l → says ≡ weakly → says ≡ referentFound c table o l
+  unfolding referentFound accepts allOf
   referent-weak e w = w ∙ ap (λ (f : List ℕ). orWeak f weakly) e
 
-  pub referent-refused : {says : List ℕ} → says ≡ fieldIn c table o l → accepts says ≡ false → says ≡ referentIn c table o l
-  unfolding referentIn allOf
-  referent-refused {says} e f = let z : accepts (fieldIn c table o l) ≡ false = ap accepts (sym e) ∙ f in rw z e
+  pub referent-refused : {says : List ℕ} → says ≡ fieldFound c table o l → accepts says ≡ false → says ≡ referentFound c table o l
+  unfolding referentFound allOf
+  referent-refused {says} e f = let z : accepts (fieldFound c table o l) ≡ false = ap accepts (sym e) ∙ f in rw z e

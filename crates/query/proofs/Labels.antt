@@ -24,24 +24,24 @@ use Rattle.rules.proofs.Codes.{coarse-code}
 use Rattle.labels.specs.Reading.{coarseBack, exactBack}
 use Rattle.labels.proofs.Back.{exact-back, coarse-back}
 use Rattle.query.specs.Reading.{spanOf}
-use Rattle.query.specs.Labelled.{spanIn, edgeOf, orColumns, labelled, coarseAt, goesTo, Labelled}
+use Rattle.query.specs.Labelled.{spanIn, edgeAsked, orColumns, labelled, coarseAt, goesTo, Labelled}
 use Rattle.query.proofs.Spans.{span-inside, asked-reads, span-read, span-none, span-columns}
 use Rattle.query.proofs.Placed.{first-edge}
 
--- Which case of `edgeOf` holds.
-pub no-edge : (a b k : ℕ) → b - a ≤ k → edgeOf (0 ∷ a ∷ b ∷ []) k ≡ 11 ∷ k ∷ []
-unfolding edgeOf accepts
+-- Which case of `edgeAsked` holds.
+pub no-edge : (a b k : ℕ) → b - a ≤ k → edgeAsked (0 ∷ a ∷ b ∷ []) k ≡ 11 ∷ k ∷ []
+unfolding edgeAsked accepts
 no-edge a b k l = rw (le-ltb k (b - a) l)
 
-pub none-at-all : (a b k : ℕ) → b ≤ a → edgeOf (0 ∷ a ∷ b ∷ []) k ≡ 11 ∷ k ∷ []
+pub none-at-all : (a b k : ℕ) → b ≤ a → edgeAsked (0 ∷ a ∷ b ∷ []) k ≡ 11 ∷ k ∷ []
 none-at-all a b k l = no-edge a b k (omega arith)
 
-pub has-edge : (a b k : ℕ) → k < b - a → edgeOf (0 ∷ a ∷ b ∷ []) k ≡ 0 ∷ a ∷ b ∷ []
-unfolding edgeOf accepts
+pub has-edge : (a b k : ℕ) → k < b - a → edgeAsked (0 ∷ a ∷ b ∷ []) k ≡ 0 ∷ a ∷ b ∷ []
+unfolding edgeAsked accepts
 has-edge a b k l = rw (lt-ltb k (b - a) l)
 
-held : (says : List ℕ) (k : ℕ) {a b : ℕ} → edgeOf says k ≡ 0 ∷ a ∷ b ∷ [] → (says ≡ 0 ∷ a ∷ b ∷ []) × (k < b - a)
-unfolding edgeOf accepts
+held : (says : List ℕ) (k : ℕ) {a b : ℕ} → edgeAsked says k ≡ 0 ∷ a ∷ b ∷ [] → (says ≡ 0 ∷ a ∷ b ∷ []) × (k < b - a)
+unfolding edgeAsked accepts
 held says k {a} {b} e = go (accepts says) refl (ltb k (says ! 2 - says ! 1)) refl e
   where
     go : (t : Bool) → accepts says ≡ t → (u : Bool) → ltb k (says ! 2 - says ! 1) ≡ u → cond t (cond u says (11 ∷ k ∷ [])) says ≡ 0 ∷ a ∷ b ∷ []
@@ -54,7 +54,7 @@ held says k {a} {b} e = go (accepts says) refl (ltb k (says ! 2 - says ! 1)) ref
     go false t u q e = absurd (false≢true (sym t ∙ ap accepts e))
 
 -- an edge that exists stands within the codes
-pub edge-in : (c : Blocked) (codes targets o k : ℕ) {a b : ℕ} → edgeOf (spanOf c codes targets o) k ≡ 0 ∷ a ∷ b ∷ [] → a + k < codes
+pub edge-in : (c : Blocked) (codes targets o k : ℕ) {a b : ℕ} → edgeAsked (spanOf c codes targets o) k ≡ 0 ∷ a ∷ b ∷ [] → a + k < codes
 edge-in c codes targets o k e = let h = held (spanOf c codes targets o) k e in omega (arith, h .1, span-inside c codes targets o (h .0) .coded)
 
 -- a list that is tested to rise does
@@ -124,8 +124,8 @@ labelled-columns place ls o h = go (accepts place)
     go true e = columns-label o ls e
     go false e = h e
 
-edge-columns : (says : List ℕ) (k o : ℕ) → (eqb (says ! 0) 12 ≡ true → says ≡ 12 ∷ o ∷ []) → eqb (edgeOf says k ! 0) 12 ≡ true → edgeOf says k ≡ 12 ∷ o ∷ []
-unfolding edgeOf
+edge-columns : (says : List ℕ) (k o : ℕ) → (eqb (says ! 0) 12 ≡ true → says ≡ 12 ∷ o ∷ []) → eqb (edgeAsked says k ! 0) 12 ≡ true → edgeAsked says k ≡ 12 ∷ o ∷ []
+unfolding edgeAsked
 edge-columns says k o h = go (accepts says) (ltb k (says ! 2 - says ! 1))
   where
     go : (t u : Bool) → eqb (cond t (cond u says (11 ∷ k ∷ [])) says ! 0) 12 ≡ true → cond t (cond u says (11 ∷ k ∷ [])) says ≡ 12 ∷ o ∷ []
@@ -136,30 +136,30 @@ edge-columns says k o h = go (accepts says) (ltb k (says ! 2 - says ! 1))
 -- Edge k by a way of reading its label, from where the object's edges begin.
 module _ (c : Columns) (o k : ℕ) (read : ℕ → List ℕ) where
   abbrev at : List ℕ
-  at = labelled (edgeOf (spanIn c o) k) (read (spanIn c o ! 1)) o
+  at = labelled (edgeAsked (spanIn c o) k) (read (spanIn c o ! 1)) o
 
-  read-is : {a b : ℕ} {says ls : List ℕ} → edgeOf (spanIn c o) k ≡ 0 ∷ a ∷ b ∷ [] → ls ≡ read a → says ≡ orColumns o ls → says ≡ at
+  read-is : {a b : ℕ} {says ls : List ℕ} → edgeAsked (spanIn c o) k ≡ 0 ∷ a ∷ b ∷ [] → ls ≡ read a → says ≡ orColumns o ls → says ≡ at
   read-is {a} {b} e r s =
       let start : spanIn c o ! 1 ≡ a = ap (λ (xs : List ℕ). xs ! 1) (held (spanIn c o) k e .0) in
-      s ∙ ap (orColumns o) (r ∙ ap read (sym start)) ∙ sym (labelled-read (edgeOf (spanIn c o) k) (read (spanIn c o ! 1)) o e)
+      s ∙ ap (orColumns o) (r ∙ ap read (sym start)) ∙ sym (labelled-read (edgeAsked (spanIn c o) k) (read (spanIn c o ! 1)) o e)
 
-  refused-is : {says : List ℕ} → says ≡ edgeOf (spanIn c o) k → accepts says ≡ false → says ≡ at
-  refused-is e f = e ∙ sym (labelled-refused (edgeOf (spanIn c o) k) (read (spanIn c o ! 1)) o (ap accepts (sym e) ∙ f))
+  refused-is : {says : List ℕ} → says ≡ edgeAsked (spanIn c o) k → accepts says ≡ false → says ≡ at
+  refused-is e f = e ∙ sym (labelled-refused (edgeAsked (spanIn c o) k) (read (spanIn c o ! 1)) o (ap accepts (sym e) ∙ f))
 
   -- COLUMNS is given with the object
   at-columns : eqb (at ! 0) 12 ≡ true → at ≡ 12 ∷ o ∷ []
-  at-columns = labelled-columns (edgeOf (spanIn c o) k) (read (spanIn c o ! 1)) o (edge-columns (spanIn c o) k o (span-columns c o))
+  at-columns = labelled-columns (edgeAsked (spanIn c o) k) (read (spanIn c o ! 1)) o (edge-columns (spanIn c o) k o (span-columns c o))
 
   at-none : objectsIn c ≤ o → at ≡ 11 ∷ o ∷ []
-  unfolding labelled edgeOf accepts
-  at-none l = ap (λ (s : List ℕ). labelled (edgeOf s k) (read (s ! 1)) o) (span-none c o l)
+  unfolding labelled edgeAsked accepts
+  at-none l = ap (λ (s : List ℕ). labelled (edgeAsked s k) (read (s ! 1)) o) (span-none c o l)
 
   module _ (f : ℕ → ℕ) (back : readsBack c o ≡ true → k < edgesIn c o → read (offsetAt c o) ≡ f (exactLabel (c .labels) (offsetAt c o) k) ∷ []) where
     at-read : o < objectsIn c → readsBack c o ≡ true → at ≡ labelAt f (edgesRead c o) k
-    at-read l h = ap (λ (s : List ℕ). labelled (edgeOf s k) (read (s ! 1)) o) (span-read c o l h) ∙ go (ltb k (edgesIn c o)) refl ∙ sym (label-read c o k f)
+    at-read l h = ap (λ (s : List ℕ). labelled (edgeAsked s k) (read (s ! 1)) o) (span-read c o l h) ∙ go (ltb k (edgesIn c o)) refl ∙ sym (label-read c o k f)
       where
         place : List ℕ
-        place = edgeOf (0 ∷ offsetAt c o ∷ offsetAt c (suc o) ∷ []) k
+        place = edgeAsked (0 ∷ offsetAt c o ∷ offsetAt c (suc o) ∷ []) k
 
         go : (b : Bool) → ltb k (edgesIn c o) ≡ b → labelled place (read (offsetAt c o)) o ≡ cond b (0 ∷ f (exactLabel (c .labels) (offsetAt c o) k) ∷ []) (11 ∷ k ∷ [])
         go true t =
@@ -177,11 +177,11 @@ module _ (c : Columns) (o k : ℕ) where
   abbrev coarseFrom : ℕ → List ℕ
   coarseFrom e = coarseBack (c .labels) (e + k)
 
-  pub coarse-is : {a b : ℕ} {says ls : List ℕ} → edgeOf (spanIn c o) k ≡ 0 ∷ a ∷ b ∷ [] → ls ≡ coarseBack (c .labels) (a + k) → says ≡ orColumns o ls → says ≡ coarseAt c o k
+  pub coarse-is : {a b : ℕ} {says ls : List ℕ} → edgeAsked (spanIn c o) k ≡ 0 ∷ a ∷ b ∷ [] → ls ≡ coarseBack (c .labels) (a + k) → says ≡ orColumns o ls → says ≡ coarseAt c o k
   unfolding coarseAt
   coarse-is e r s = read-is c o k coarseFrom e r s
 
-  pub coarse-refused : {says : List ℕ} → says ≡ edgeOf (spanIn c o) k → accepts says ≡ false → says ≡ coarseAt c o k
+  pub coarse-refused : {says : List ℕ} → says ≡ edgeAsked (spanIn c o) k → accepts says ≡ false → says ≡ coarseAt c o k
   unfolding coarseAt
   coarse-refused e f = refused-is c o k coarseFrom e f
 
@@ -196,21 +196,21 @@ module _ (c : Columns) (o k : ℕ) where
   exactFrom e = exactBack (c .labels) e k
 
   abbrev exactAt : List ℕ
-  exactAt = labelled (edgeOf (spanIn c o) k) (exactFrom (spanIn c o ! 1)) o
+  exactAt = labelled (edgeAsked (spanIn c o) k) (exactFrom (spanIn c o ! 1)) o
 
-  exact-labelled : Labelled o (edgeOf (spanIn c o) k) exactAt (exactOf c o k)
+  exact-labelled : Labelled o (edgeAsked (spanIn c o) k) exactAt (exactOf c o k)
   unfolding exactOf
   exact-labelled = record {
-    refused = λ f. labelled-refused (edgeOf (spanIn c o) k) (exactFrom (spanIn c o ! 1)) o f;
-    exists = λ t. labelled-exists (edgeOf (spanIn c o) k) (exactFrom (spanIn c o ! 1)) o t;
+    refused = λ f. labelled-refused (edgeAsked (spanIn c o) k) (exactFrom (spanIn c o ! 1)) o f;
+    exists = λ t. labelled-exists (edgeAsked (spanIn c o) k) (exactFrom (spanIn c o ! 1)) o t;
     promised = at-promised c o k exactFrom (λ l. l) (λ h l. exact-read c o h k l);
   }
 
-  pub exact-is : {a b : ℕ} {says ls : List ℕ} → edgeOf (spanIn c o) k ≡ 0 ∷ a ∷ b ∷ [] → ls ≡ exactBack (c .labels) a k → says ≡ orColumns o ls
-      → Labelled o (edgeOf (spanIn c o) k) says (exactOf c o k)
+  pub exact-is : {a b : ℕ} {says ls : List ℕ} → edgeAsked (spanIn c o) k ≡ 0 ∷ a ∷ b ∷ [] → ls ≡ exactBack (c .labels) a k → says ≡ orColumns o ls
+      → Labelled o (edgeAsked (spanIn c o) k) says (exactOf c o k)
   exact-is {a} {b} {says} {ls} e r s = let z : says ≡ exactAt = read-is c o k exactFrom e r s in rw z exact-labelled
 
-  pub exact-refused : {says : List ℕ} → says ≡ edgeOf (spanIn c o) k → accepts says ≡ false → Labelled o (edgeOf (spanIn c o) k) says (exactOf c o k)
+  pub exact-refused : {says : List ℕ} → says ≡ edgeAsked (spanIn c o) k → accepts says ≡ false → Labelled o (edgeAsked (spanIn c o) k) says (exactOf c o k)
   exact-refused {says} e f = let z : says ≡ exactAt = refused-is c o k exactFrom e f in rw z exact-labelled
 
 -- The exact label of the first edge to a target.

@@ -21,7 +21,7 @@ use Rattle.rules.specs.Types.{ARRAY-ELEMENT, isElement}
 use Rattle.rules.specs.Edges.{Edge}
 use Rattle.rules.specs.Labels.{Coded, isEscaped, exactLabel, coarseLabel}
 use Rattle.rules.specs.Questions.{Columns, coarse, asked, firstEdge, targetsOf, smallest, orSmallest, labelReads, readsBack, weakReads, weakRead, weakIn, objectsIn, offsetAt, edgesIn, edgeAt, edgesRead, field, referent, Promised}
-use Rattle.rules.specs.Questions.{fieldIn as fieldOn, referentIn as referentOn}
+use Rattle.rules.specs.Questions.{fieldIn, referentIn}
 use Rattle.rules.proofs.Codes.{coarse-code}
 use Rattle.rules.proofs.Weak.{weak-part, first-smallest}
 use Rattle.labels.specs.Reading.{coarseBack}
@@ -30,7 +30,7 @@ use Rattle.query.specs.declared.field.Sought.{Sought}
 use Rattle.query.specs.declared.field.Sought.the-variants.{At, Nothing, Bad}
 use Rattle.query.specs.Reading.{weakOf}
 use Rattle.query.specs.Labelled.{spanIn}
-use Rattle.query.specs.Sought.{placed, elementAt, codeAt, codeIn, stops, ifRead, decoded, soughtIn, targetOf, fieldIn, firstWeak, orWeak, referentIn, OneCode}
+use Rattle.query.specs.Sought.{placed, elementAt, codeAt, codeIn, stops, ifRead, decoded, soughtIn, targetOf, fieldFound, firstWeak, orWeak, referentFound, OneCode}
 use Rattle.query.proofs.Spans.{asked-reads, span-read, span-none, span-columns, weak-sorted, weak-climbs, weak-even, weak-read, weak-columns}
 use Rattle.query.proofs.Placed.{placed-none, placed-ext, first-ext, first-edge}
 use Rattle.query.proofs.Labels.{escapes-rise, escapes-even, label-reads}
@@ -143,8 +143,8 @@ module _ (c : Columns) (o l : ℕ) (h : readsBack c o ≡ true) where
           ∙ placed-ext (codeAt d e x) matches n (match-code one x (coding (d .fields) table l _ (eqb-false x 32767 r)))
 
   -- the rules' answer on the edges that are read
-  edges-read : targetOf (c .targets) e o (placed matches n) ≡ 0 ∷ fieldOn (edgesRead c o) l
-  unfolding placed fieldOn edgesRead
+  edges-read : targetOf (c .targets) e o (placed matches n) ≡ 0 ∷ fieldIn (edgesRead c o) l
+  unfolding placed fieldIn edgesRead
   edges-read =
       rw (first-edge (λ (x : Edge). eqb (coarse (x .label)) l) (edgeAt c o) n, ← first-ext matches (λ k. eqb (coarse (exactLabel d e k)) l) n (λ k m. ap (λ (z : ℕ). eqb z l) (coarse-code d e k (label-reads c o h k m))))
       (go (ltb j n))
@@ -178,8 +178,8 @@ first-columns o says to h = go (accepts says) (ltb (says ! 1) (says ! 2))
     go false u q = h q
 
 module _ (c : Columns) (table : List ℕ) (o l : ℕ) where
-  field-columns : eqb (fieldIn c table o l ! 0) 12 ≡ true → fieldIn c table o l ≡ 12 ∷ o ∷ []
-  unfolding fieldIn
+  field-columns : eqb (fieldFound c table o l ! 0) 12 ≡ true → fieldFound c table o l ≡ 12 ∷ o ∷ []
+  unfolding fieldFound
   field-columns = go (accepts says) (soughtIn (c .labels) table (says ! 1) (says ! 2 - says ! 1) l)
     where
       says : List ℕ
@@ -191,17 +191,17 @@ module _ (c : Columns) (table : List ℕ) (o l : ℕ) where
       go true Bad q = refl
       go false s q = span-columns c o q
 
-  field-none : objectsIn c ≤ o → fieldIn c table o l ≡ 11 ∷ o ∷ []
-  unfolding fieldIn accepts
+  field-none : objectsIn c ≤ o → fieldFound c table o l ≡ 11 ∷ o ∷ []
+  unfolding fieldFound accepts
   field-none m = rw (span-none c o m)
 
   module _ (one : o < objectsIn c → readsBack c o ≡ true → OneCode (c .labels) (offsetAt c o) (edgesIn c o)) where
-    field-read : o < objectsIn c → readsBack c o ≡ true → fieldIn c table o l ≡ 0 ∷ fieldOn (edgesRead c o) l
-    unfolding fieldIn accepts
+    field-read : o < objectsIn c → readsBack c o ≡ true → fieldFound c table o l ≡ 0 ∷ fieldIn (edgesRead c o) l
+    unfolding fieldFound accepts
     field-read m h = rw (span-read c o m h) (ap (targetOf (c .targets) (offsetAt c o) o) (sought-read c o l h table (one m h)) ∙ edges-read c o l h)
 
     -- `field` keeps the promise, whatever the table holds.
-    pub field-promised : Promised o (fieldIn c table o l) (field c o l)
+    pub field-promised : Promised o (fieldFound c table o l) (field c o l)
     unfolding field
     field-promised = record { answered = asked-reads c o (readsBack c o) _ _ field-read field-none; columns = field-columns }
 
@@ -225,22 +225,22 @@ module _ (c : Columns) (table : List ℕ) (o l : ℕ) where
         sorted : smallest (part (c .weakTo) (rank (c .weakFrom) o) (rank (c .weakFrom) (suc o))) ≡ take 1 (part (c .weakTo) (rank (c .weakFrom) o) (rank (c .weakFrom) (suc o)))
         sorted = rw own (first-smallest (c .weakFrom) (c .weakTo) o (weak-sorted c o w))
 
-    referent-read : o < objectsIn c → allOf (readsBack c o ∷ weakReads c ∷ []) ≡ true → referentIn c table o l ≡ 0 ∷ referentOn (edgesRead c o) (weakRead c o) l
-    unfolding referentIn fieldOn
+    referent-read : o < objectsIn c → allOf (readsBack c o ∷ weakReads c ∷ []) ≡ true → referentFound c table o l ≡ 0 ∷ referentIn (edgesRead c o) (weakRead c o) l
+    unfolding referentFound fieldIn
     referent-read m h =
         ap (λ (f : List ℕ). orWeak f (firstWeak (weakOf (length (c .offsets .short)) (c .weakFrom) (c .weakTo) o) (c .weakTo))) (field-read m (each-of _ h 0))
         ∙ field-or (firstEdge (λ (x : Edge). eqb (coarse (x .label)) l) (edgesRead c o)) _ (weakRead c o) (weakly-read m (each-of _ h 1))
 
-    referent-none : objectsIn c ≤ o → referentIn c table o l ≡ 11 ∷ o ∷ []
-    unfolding referentIn accepts allOf
+    referent-none : objectsIn c ≤ o → referentFound c table o l ≡ 11 ∷ o ∷ []
+    unfolding referentFound accepts allOf
     referent-none m = rw (field-none m)
 
-    referent-columns : eqb (referentIn c table o l ! 0) 12 ≡ true → referentIn c table o l ≡ 12 ∷ o ∷ []
-    unfolding referentIn
+    referent-columns : eqb (referentFound c table o l ! 0) 12 ≡ true → referentFound c table o l ≡ 12 ∷ o ∷ []
+    unfolding referentFound
     referent-columns = go (allOf (accepts f ∷ eqb (length f) 1 ∷ []))
       where
         f : List ℕ
-        f = fieldIn c table o l
+        f = fieldFound c table o l
 
         says : List ℕ
         says = weakOf (length (c .offsets .short)) (c .weakFrom) (c .weakTo) o
@@ -250,6 +250,6 @@ module _ (c : Columns) (table : List ℕ) (o l : ℕ) where
         go false = field-columns
 
     -- `referent` keeps the promise, whatever the table holds.
-    pub referent-promised : Promised o (referentIn c table o l) (referent c o l)
+    pub referent-promised : Promised o (referentFound c table o l) (referent c o l)
     unfolding referent
     referent-promised = record { answered = asked-reads c o (allOf (readsBack c o ∷ weakReads c ∷ [])) _ _ referent-read referent-none; columns = referent-columns }

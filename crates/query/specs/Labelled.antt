@@ -27,8 +27,8 @@ abbrev pub spanIn : Columns → ℕ → List ℕ
 spanIn c o = spanOf (c .offsets) (length (c .labels .codes)) (length (c .targets)) o
 
 -- "A query's .. edge of an object does not exist": INDEX with the edge asked.
-unfoldable pub edgeOf : List ℕ → ℕ → List ℕ
-edgeOf says k = cond (accepts says) (cond (ltb k (says ! 2 - says ! 1)) says (11 ∷ k ∷ [])) says
+unfoldable pub edgeAsked : List ℕ → ℕ → List ℕ
+edgeAsked says k = cond (accepts says) (cond (ltb k (says ! 2 - says ! 1)) says (11 ∷ k ∷ [])) says
 
 -- "A query meets an entry that cannot be read back": COLUMNS with the object.
 abbrev pub orColumns : ℕ → List ℕ → List ℕ
@@ -41,7 +41,7 @@ labelled says label o = cond (accepts says) (orColumns o label) says
 
 -- The coarse label of edge k: its code alone says it.
 unfoldable pub coarseAt : Columns → ℕ → ℕ → List ℕ
-coarseAt c o k = labelled (edgeOf (spanIn c o) k) (coarseBack (c .labels) (spanIn c o ! 1 + k)) o
+coarseAt c o k = labelled (edgeAsked (spanIn c o) k) (coarseBack (c .labels) (spanIn c o ! 1 + k)) o
 
 -- the edge k of the object whose edges begin at e goes to t
 abbrev pub goesTo : List ℕ → ℕ → ℕ → ℕ → Bool

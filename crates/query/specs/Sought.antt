@@ -65,8 +65,8 @@ targetOf ts e o (At k) = 0 ∷ ts ! (e + k) ∷ []
 targetOf ts e o Nothing = 0 ∷ []
 targetOf ts e o Bad = 12 ∷ o ∷ []
 
-unfoldable pub fieldIn : Columns → List ℕ → ℕ → ℕ → List ℕ
-fieldIn c table o l =
+unfoldable pub fieldFound : Columns → List ℕ → ℕ → ℕ → List ℕ
+fieldFound c table o l =
     let s = spanIn c o in
     cond (accepts s) (targetOf (c .targets) (s ! 1) o (soughtIn (c .labels) table (s ! 1) (s ! 2 - s ! 1) l)) s
 
@@ -77,8 +77,8 @@ firstWeak says to = cond (accepts says) (cond (ltb (says ! 1) (says ! 2)) (0 ∷
 abbrev pub orWeak : List ℕ → List ℕ → List ℕ
 orWeak field weak = cond (allOf (accepts field ∷ eqb (length field) 1 ∷ [])) weak field
 
-unfoldable pub referentIn : Columns → List ℕ → ℕ → ℕ → List ℕ
-referentIn c table o l = orWeak (fieldIn c table o l) (firstWeak (weakOf (length (c .offsets .short)) (c .weakFrom) (c .weakTo) o) (c .weakTo))
+unfoldable pub referentFound : Columns → List ℕ → ℕ → ℕ → List ℕ
+referentFound c table o l = orWeak (fieldFound c table o l) (firstWeak (weakOf (length (c .offsets .short)) (c .weakFrom) (c .weakTo) o) (c .weakTo))
 
 -- Each label on the object's edges is coded in one way: an edge whose coarse label is among the fields has that field's code. So an accepted build codes them.
 abbrev pub OneCode : Coded → ℕ → ℕ → Type 0

@@ -18,7 +18,7 @@ ghost use Rattle.rules.specs.Types.{fieldSays, referentSays};
 ghost use Rattle.labels.specs.Reading.{codedOf};
 ghost use Rattle.query.specs.Reading.{weakOf};
 ghost use Rattle.query.specs.Labelled.{graphOf};
-ghost use Rattle.query.specs.Sought.{placed, elementAt, codeAt, slotIn, codeIn, decoded, soughtIn, targetOf, fieldIn, firstWeak, referentIn};
+ghost use Rattle.query.specs.Sought.{placed, elementAt, codeAt, slotIn, codeIn, decoded, soughtIn, targetOf, fieldFound, firstWeak, referentFound};
 
 // The first edge that matches: its number among the object's. Bad where an edge before it cannot be read.
 pub enum Sought {
@@ -171,7 +171,7 @@ pub fn field(
     object: usize,
     label: u32,
 ) -> Field
-    ensures { λ r. ⌜ fieldSays r ≡ fieldIn (graphOf (now (bases .entry)) (now (short .entry)) (now («long_at» .entry)) (now («long_value» .entry)) (now (codes .entry)) (now (targets .entry)) (now (fields .entry)) (now («escape_at» .entry)) (now («escape_label» .entry)) [] []) (now (table .entry)) object label ⌝ }
+    ensures { λ r. ⌜ fieldSays r ≡ fieldFound (graphOf (now (bases .entry)) (now (short .entry)) (now («long_at» .entry)) (now («long_value» .entry)) (now (codes .entry)) (now (targets .entry)) (now (fields .entry)) (now («escape_at» .entry)) (now («escape_label» .entry)) [] []) (now (table .entry)) object label ⌝ }
 {
     let at = span(bases, short, long_at, long_value, codes, targets, object);
     match at {
@@ -231,7 +231,7 @@ pub fn referent(
     object: usize,
     label: u32,
 ) -> Referent
-    ensures { λ r. ⌜ referentSays r ≡ referentIn (graphOf (now (bases .entry)) (now (short .entry)) (now («long_at» .entry)) (now («long_value» .entry)) (now (codes .entry)) (now (targets .entry)) (now (fields .entry)) (now («escape_at» .entry)) (now («escape_label» .entry)) (now («weak_from» .entry)) (now («weak_to» .entry))) (now (table .entry)) object label ⌝ }
+    ensures { λ r. ⌜ referentSays r ≡ referentFound (graphOf (now (bases .entry)) (now (short .entry)) (now («long_at» .entry)) (now («long_value» .entry)) (now (codes .entry)) (now (targets .entry)) (now (fields .entry)) (now («escape_at» .entry)) (now («escape_label» .entry)) (now («weak_from» .entry)) (now («weak_to» .entry))) (now (table .entry)) object label ⌝ }
 {
     let held = field(
         bases,

@@ -14,11 +14,11 @@ ghost use Rattle.columns.specs.Lists.{firstPlace};
 ghost use Rattle.rules.specs.Types.{spanSays, coarseSays, exactSays, labelOfSays};
 ghost use Rattle.rules.specs.Questions.{exactOf, labelOf};
 ghost use Rattle.labels.specs.Reading.{readSays};
-ghost use Rattle.query.specs.Labelled.{graphOf, spanIn, edgeOf, orColumns, coarseAt, goesTo, Labelled};
+ghost use Rattle.query.specs.Labelled.{graphOf, spanIn, edgeAsked, orColumns, coarseAt, goesTo, Labelled};
 
 // The span of an object, where it has the edge asked; else INDEX with the edge.
 fn with_edge(at: Span, edge: usize) -> Span
-    ensures { λ r. ⌜ spanSays r ≡ edgeOf (spanSays at) edge ⌝ }
+    ensures { λ r. ⌜ spanSays r ≡ edgeAsked (spanSays at) edge ⌝ }
 {
     match at {
         Span::Edges { start, end } => {
@@ -104,7 +104,7 @@ pub fn exact_label(
     object: usize,
     edge: usize,
 ) -> ExactLabel
-    ensures { λ r. ⌜ Labelled object (edgeOf (spanIn (graphOf (now (bases .entry)) (now (short .entry)) (now («long_at» .entry)) (now («long_value» .entry)) (now (codes .entry)) (now (targets .entry)) (now (fields .entry)) (now («escape_at» .entry)) (now («escape_label» .entry)) [] []) object) edge) (exactSays r) (exactOf (graphOf (now (bases .entry)) (now (short .entry)) (now («long_at» .entry)) (now («long_value» .entry)) (now (codes .entry)) (now (targets .entry)) (now (fields .entry)) (now («escape_at» .entry)) (now («escape_label» .entry)) [] []) object edge) ⌝ }
+    ensures { λ r. ⌜ Labelled object (edgeAsked (spanIn (graphOf (now (bases .entry)) (now (short .entry)) (now («long_at» .entry)) (now («long_value» .entry)) (now (codes .entry)) (now (targets .entry)) (now (fields .entry)) (now («escape_at» .entry)) (now («escape_label» .entry)) [] []) object) edge) (exactSays r) (exactOf (graphOf (now (bases .entry)) (now (short .entry)) (now («long_at» .entry)) (now («long_value» .entry)) (now (codes .entry)) (now (targets .entry)) (now (fields .entry)) (now («escape_at» .entry)) (now («escape_label» .entry)) [] []) object edge) ⌝ }
 {
     let whole = span(bases, short, long_at, long_value, codes, targets, object);
     let at = with_edge(whole, edge);

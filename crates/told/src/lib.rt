@@ -1,5 +1,6 @@
 // Answers as numbers, for a host: how many numbers document 01 gives an answer, those numbers, then zeros.
 use reader::NextEdge;
+use rows::Filled;
 use rules::Built;
 use rules::CoarseLabel;
 use rules::EdgeCount;
@@ -13,6 +14,7 @@ use rules::WeakReferents;
 ghost use mathlib.Core.Path.{_≡_};
 ghost use Rattle.rules.specs.Types.{refusalSays, builtSays, spanSays, edgeCountSays, coarseSays, exactSays, labelOfSays, fieldSays, referentSays, weakSays};
 ghost use Rattle.reader.specs.Read.{nextSays};
+ghost use Rattle.rows.specs.Rows.{filledSays};
 ghost use Rattle.told.specs.Told.{told};
 
 fn refusal(f: Refusal) -> [u64; 9]
@@ -61,6 +63,15 @@ pub fn built(b: Built) -> [u64; 9]
             c.dangling,
         ],
         Built::Refused(f) => refusal(f),
+    }
+}
+
+pub fn filled(f: Filled) -> [u64; 4]
+    ensures { λ r. ⌜ r ≡ told 4 (filledSays f) ⌝ }
+{
+    match f {
+        Filled::Done(rows) => [2, 0, rows as u64, 0],
+        Filled::Room(buffer) => [2, 9, buffer as u64, 0],
     }
 }
 

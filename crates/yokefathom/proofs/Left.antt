@@ -6,7 +6,10 @@ use Rattle.rules.specs.Built.{CodedLeft, BuildLeft, PartsLeft}
 use Rattle.stages.specs.Stages.{leftOf}
 use Rattle.handed.specs.Parts.{leftAs}
 use Rattle.told.specs.Told.{told}
-use Rattle.yokefathom.specs.Calls.{BuildTold, PartsTold}
+use Rattle.rows.specs.declared.SlotRow.{SlotRow}
+use Rattle.rows.specs.declared.Filled.{Filled}
+use Rattle.rows.specs.Rows.{filledSays, left, Filling}
+use Rattle.yokefathom.specs.Calls.{BuildTold, PartsTold, SlotsTold}
 
 pub build-told : {left : BuildLeft} {says answer ts ls fs ws rs wk : List ℕ} {coded : CodedLeft} {a : List (List ℕ)} → answer ≡ told 9 says → leftOf says ts ls fs ws rs wk coded a ≡ left → BuildTold left answer ts ls fs ws rs wk coded a
 build-told {left} {says} {answer} {ts} {ls} {fs} {ws} {rs} {wk} {coded} {a} e l =
@@ -17,3 +20,6 @@ pub parts-told : {left : PartsLeft} {says answer : List ℕ} {coded : CodedLeft}
 parts-told {left} {says} {answer} {coded} e l =
     let said : says ≡ left .says = ap (λ (b : PartsLeft). b .says) l in
     record { told-as = e ∙ ap (told 9) said; columns = ap (λ (s : List ℕ). leftAs s coded) (sym said) ∙ l }
+
+pub slots-told : {rows : List SlotRow} {a b c : ℕ} {r : Filled} {answer o l w : List ℕ} → answer ≡ told 4 (filledSays r) → Filling rows a b c r o l w → SlotsTold (left rows a b c) answer o l w
+slots-told e f = record { told-as = e ∙ ap (told 4) (f .answer); offsets = f .offsets; labels = f .labels; weak = f .weak }

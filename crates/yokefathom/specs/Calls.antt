@@ -6,7 +6,7 @@ use mathlib.Core.List.{List}
 use lib.ListN.{take, drop}
 use Rattle.columns.specs.Lists.{_!_}
 use Rattle.rules.specs.declared.ReferencePolicy.{ReferencePolicy}
-use Rattle.rules.specs.Built.{CodedLeft, BuildLeft, PartsLeft}
+use Rattle.rules.specs.Built.{CodedLeft, BuildLeft, PartsLeft, SlotsLeft}
 use Rattle.stages.specs.Stages.{leftOf}
 use Rattle.handed.specs.Parts.{leftAs}
 use Rattle.told.specs.Told.{told}
@@ -28,3 +28,10 @@ pub record BuildTold (left : BuildLeft) (answer ts ls fs ws rs wk : List ℕ) (c
 pub record PartsTold (left : PartsLeft) (answer : List ℕ) (coded : CodedLeft) : Type 0 where
   pub told-as : answer ≡ told 9 (left .says)
   pub columns : leftAs (left .says) coded ≡ left
+
+-- Filling from slot rows, told likewise.
+pub record SlotsTold (left : SlotsLeft) (answer o l w : List ℕ) : Type 0 where
+  pub told-as : answer ≡ told 4 (left .says)
+  pub offsets : o ≡ left .offsets
+  pub labels : l ≡ left .labels
+  pub weak : w ≡ left .weak

@@ -3,3 +3,4 @@
 pub mod builds;
 pub mod parts;
 pub mod questions;
+pub mod slots;

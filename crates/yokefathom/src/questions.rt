@@ -6,8 +6,8 @@ ghost use lib.ListN.{length};
 ghost use Rattle.store.specs.Blocked.{blockedOf};
 ghost use Rattle.rules.specs.Questions.{exactOf, labelOf};
 ghost use Rattle.query.specs.Reading.{spanOf, countOf, weakOf};
-ghost use Rattle.query.specs.Labelled.{graphOf, spanIn, edgeOf, coarseAt, Labelled};
-ghost use Rattle.query.specs.Sought.{fieldIn, referentIn};
+ghost use Rattle.query.specs.Labelled.{graphOf, spanIn, edgeAsked, coarseAt, Labelled};
+ghost use Rattle.query.specs.Sought.{fieldFound, referentFound};
 ghost use Rattle.reader.specs.Read.{nextOf};
 ghost use Rattle.told.specs.Told.{told};
 ghost use Rattle.yokefathom.specs.Calls.{heard};
@@ -15,13 +15,13 @@ ghost use Rattle.yokefathom.specs.Calls.{heard};
 // Where the edges of an object sit in the target column.
 #[no_mangle]
 pub extern "C" fn yokefathom_span(
+    object: usize,
     bases: &[u64],
     short: &[u16],
     long_at: &[u32],
     long_value: &[u64],
     codes: &[u16],
     targets: &[u32],
-    object: usize,
     answer: &mut [u64; 4],
 )
     ensures { λ _. ⌜ now (answer .exit) ≡ told 4 (spanOf (blockedOf (now (bases .entry)) (now (short .entry)) (now («long_at» .entry)) (now («long_value» .entry))) (length (now (codes .entry))) (length (now (targets .entry))) object) ⌝ }
@@ -34,13 +34,13 @@ pub extern "C" fn yokefathom_span(
 // How many edges an object has.
 #[no_mangle]
 pub extern "C" fn yokefathom_edge_count(
+    object: usize,
     bases: &[u64],
     short: &[u16],
     long_at: &[u32],
     long_value: &[u64],
     codes: &[u16],
     targets: &[u32],
-    object: usize,
     answer: &mut [u64; 4],
 )
     ensures { λ _. ⌜ now (answer .exit) ≡ told 4 (countOf (spanOf (blockedOf (now (bases .entry)) (now (short .entry)) (now («long_at» .entry)) (now («long_value» .entry))) (length (now (codes .entry))) (length (now (targets .entry))) object)) ⌝ }
@@ -53,10 +53,10 @@ pub extern "C" fn yokefathom_edge_count(
 // The rows of an object's weak pairs.
 #[no_mangle]
 pub extern "C" fn yokefathom_weak_referents(
+    object: usize,
     short: &[u16],
     weak_from: &[u32],
     weak_to: &[u32],
-    object: usize,
     answer: &mut [u64; 4],
 )
     ensures { λ _. ⌜ now (answer .exit) ≡ told 4 (weakOf (length (now (short .entry))) (now («weak_from» .entry)) (now («weak_to» .entry)) object) ⌝ }
@@ -69,6 +69,8 @@ pub extern "C" fn yokefathom_weak_referents(
 // The field label of an edge of an object, or just `ARRAY_ELEMENT` for an element.
 #[no_mangle]
 pub extern "C" fn yokefathom_coarse_label(
+    object: usize,
+    edge: usize,
     bases: &[u64],
     short: &[u16],
     long_at: &[u32],
@@ -78,8 +80,6 @@ pub extern "C" fn yokefathom_coarse_label(
     fields: &[u32],
     escape_at: &[u64],
     escape_label: &[u32],
-    object: usize,
-    edge: usize,
     answer: &mut [u64; 4],
 )
     ensures { λ _. ⌜ now (answer .exit) ≡ told 4 (coarseAt (graphOf (now (bases .entry)) (now (short .entry)) (now («long_at» .entry)) (now («long_value» .entry)) (now (codes .entry)) (now (targets .entry)) (now (fields .entry)) (now («escape_at» .entry)) (now («escape_label» .entry)) [] []) object edge) ⌝ }
@@ -104,6 +104,8 @@ pub extern "C" fn yokefathom_coarse_label(
 // The label of an edge of an object, an element's with its index.
 #[no_mangle]
 pub extern "C" fn yokefathom_exact_label(
+    object: usize,
+    edge: usize,
     bases: &[u64],
     short: &[u16],
     long_at: &[u32],
@@ -113,11 +115,9 @@ pub extern "C" fn yokefathom_exact_label(
     fields: &[u32],
     escape_at: &[u64],
     escape_label: &[u32],
-    object: usize,
-    edge: usize,
     answer: &mut [u64; 4],
 )
-    ensures { λ _. ⌜ (now (answer .exit) ≡ told 4 (heard (now (answer .exit)))) × Labelled object (edgeOf (spanIn (graphOf (now (bases .entry)) (now (short .entry)) (now («long_at» .entry)) (now («long_value» .entry)) (now (codes .entry)) (now (targets .entry)) (now (fields .entry)) (now («escape_at» .entry)) (now («escape_label» .entry)) [] []) object) edge) (heard (now (answer .exit))) (exactOf (graphOf (now (bases .entry)) (now (short .entry)) (now («long_at» .entry)) (now («long_value» .entry)) (now (codes .entry)) (now (targets .entry)) (now (fields .entry)) (now («escape_at» .entry)) (now («escape_label» .entry)) [] []) object edge) ⌝ }
+    ensures { λ _. ⌜ (now (answer .exit) ≡ told 4 (heard (now (answer .exit)))) × Labelled object (edgeAsked (spanIn (graphOf (now (bases .entry)) (now (short .entry)) (now («long_at» .entry)) (now («long_value» .entry)) (now (codes .entry)) (now (targets .entry)) (now (fields .entry)) (now («escape_at» .entry)) (now («escape_label» .entry)) [] []) object) edge) (heard (now (answer .exit))) (exactOf (graphOf (now (bases .entry)) (now (short .entry)) (now («long_at» .entry)) (now («long_value» .entry)) (now (codes .entry)) (now (targets .entry)) (now (fields .entry)) (now («escape_at» .entry)) (now («escape_label» .entry)) [] []) object edge) ⌝ }
 {
     let found = query::label::exact_label(
         bases,
@@ -139,6 +139,8 @@ pub extern "C" fn yokefathom_exact_label(
 // The exact label of an object's first edge to a target.
 #[no_mangle]
 pub extern "C" fn yokefathom_label_of(
+    object: usize,
+    target: u32,
     bases: &[u64],
     short: &[u16],
     long_at: &[u32],
@@ -148,8 +150,6 @@ pub extern "C" fn yokefathom_label_of(
     fields: &[u32],
     escape_at: &[u64],
     escape_label: &[u32],
-    object: usize,
-    target: u32,
     answer: &mut [u64; 4],
 )
     ensures { λ _. ⌜ (now (answer .exit) ≡ told 4 (heard (now (answer .exit)))) × Labelled object (spanIn (graphOf (now (bases .entry)) (now (short .entry)) (now («long_at» .entry)) (now («long_value» .entry)) (now (codes .entry)) (now (targets .entry)) (now (fields .entry)) (now («escape_at» .entry)) (now («escape_label» .entry)) [] []) object) (heard (now (answer .exit))) (labelOf (graphOf (now (bases .entry)) (now (short .entry)) (now («long_at» .entry)) (now («long_value» .entry)) (now (codes .entry)) (now (targets .entry)) (now (fields .entry)) (now («escape_at» .entry)) (now («escape_label» .entry)) [] []) object target) ⌝ }
@@ -174,6 +174,8 @@ pub extern "C" fn yokefathom_label_of(
 // The target of a field of an object.
 #[no_mangle]
 pub extern "C" fn yokefathom_field(
+    object: usize,
+    label: u32,
     bases: &[u64],
     short: &[u16],
     long_at: &[u32],
@@ -184,11 +186,9 @@ pub extern "C" fn yokefathom_field(
     escape_at: &[u64],
     escape_label: &[u32],
     table: &[u16],
-    object: usize,
-    label: u32,
     answer: &mut [u64; 4],
 )
-    ensures { λ _. ⌜ now (answer .exit) ≡ told 4 (fieldIn (graphOf (now (bases .entry)) (now (short .entry)) (now («long_at» .entry)) (now («long_value» .entry)) (now (codes .entry)) (now (targets .entry)) (now (fields .entry)) (now («escape_at» .entry)) (now («escape_label» .entry)) [] []) (now (table .entry)) object label) ⌝ }
+    ensures { λ _. ⌜ now (answer .exit) ≡ told 4 (fieldFound (graphOf (now (bases .entry)) (now (short .entry)) (now («long_at» .entry)) (now («long_value» .entry)) (now (codes .entry)) (now (targets .entry)) (now (fields .entry)) (now («escape_at» .entry)) (now («escape_label» .entry)) [] []) (now (table .entry)) object label) ⌝ }
 {
     let found = query::field::field(
         bases,
@@ -211,6 +211,8 @@ pub extern "C" fn yokefathom_field(
 // The target of a field of an object, or where it has none its smallest weak target.
 #[no_mangle]
 pub extern "C" fn yokefathom_referent(
+    object: usize,
+    label: u32,
     bases: &[u64],
     short: &[u16],
     long_at: &[u32],
@@ -223,11 +225,9 @@ pub extern "C" fn yokefathom_referent(
     table: &[u16],
     weak_from: &[u32],
     weak_to: &[u32],
-    object: usize,
-    label: u32,
     answer: &mut [u64; 4],
 )
-    ensures { λ _. ⌜ now (answer .exit) ≡ told 4 (referentIn (graphOf (now (bases .entry)) (now (short .entry)) (now («long_at» .entry)) (now («long_value» .entry)) (now (codes .entry)) (now (targets .entry)) (now (fields .entry)) (now («escape_at» .entry)) (now («escape_label» .entry)) (now («weak_from» .entry)) (now («weak_to» .entry))) (now (table .entry)) object label) ⌝ }
+    ensures { λ _. ⌜ now (answer .exit) ≡ told 4 (referentFound (graphOf (now (bases .entry)) (now (short .entry)) (now («long_at» .entry)) (now («long_value» .entry)) (now (codes .entry)) (now (targets .entry)) (now (fields .entry)) (now («escape_at» .entry)) (now («escape_label» .entry)) (now («weak_from» .entry)) (now («weak_to» .entry))) (now (table .entry)) object label) ⌝ }
 {
     let found = query::field::referent(
         bases,
@@ -252,16 +252,16 @@ pub extern "C" fn yokefathom_referent(
 // Edge k of an object whose span is given, where the edges before it were read in order: `expected` is 0 for the first, and then what the edge before gave.
 #[no_mangle]
 pub extern "C" fn yokefathom_edge(
+    object: usize,
+    start: usize,
+    end: usize,
+    k: usize,
+    expected: u32,
     targets: &[u32],
     codes: &[u16],
     fields: &[u32],
     escape_at: &[u64],
     escape_label: &[u32],
-    start: usize,
-    end: usize,
-    object: usize,
-    k: usize,
-    expected: u32,
     answer: &mut [u64; 5],
 )
     ensures { λ _. ⌜ now (answer .exit) ≡ told 5 (nextOf (0 ∷ start ∷ end ∷ []) (now (targets .entry)) (now (codes .entry)) (now (fields .entry)) (now («escape_at» .entry)) (now («escape_label» .entry)) object k expected) ⌝ }
