@@ -1,7 +1,8 @@
-//! Times of both sides in one process, on one thread, by turns: CPU time of the thread, least and median of several runs.
+//! Times of both sides in one process, on one thread, by turns: CPU time of the process, least and median of several runs.
 use yokefathom::Graph;
 
 use crate::case::{Case, ROUTES, Route};
+use crate::memory::{self, Side};
 use crate::oracle;
 use crate::random::Random;
 
@@ -46,7 +47,7 @@ fn line(what: &str, ours: &mut [f64], theirs: &mut [f64]) {
 }
 
 /// About four references an object: instances of a thousand classes, and arrays; a fifth null, one in a thousand missing.
-fn case(objects: u64, near: bool) -> Case {
+pub fn case(objects: u64, near: bool) -> Case {
     let random = &mut Random::new(7);
     let mut case = Case { id_size: 8, names: 5000, threads: 1, chunks: 8, ..Case::default() };
     for class in 0..1000u32 {
@@ -89,37 +90,65 @@ fn case(objects: u64, near: bool) -> Case {
     case
 }
 
-/// Each question of a hundred thousand objects.
+/// One question, asked by turns on both sides as a Rust program asks it: the original's is compiled into the loop, ours is called.
+fn question(what: &str, asked: &[(u32, u32)], ours: impl Fn(u32, u32) -> u64, theirs: impl Fn(u32, u32) -> u64) {
+    let (mut our_times, mut their_times) = (Vec::new(), Vec::new());
+    for _ in 0..RUNS {
+        let a: u64 = timed(&mut our_times, || asked.iter().map(|&(object, of)| ours(object, of)).sum());
+        let b: u64 = timed(&mut their_times, || asked.iter().map(|&(object, of)| theirs(object, of)).sum());
+        assert_eq!(a, b, "{what}");
+    }
+    line(&format!("{what}, {} objects", asked.len()), &mut our_times, &mut their_times);
+}
+
+/// Each question of a hundred thousand objects at random: with labels and targets that the object has, where it has any, and with others.
 fn questions(case: &Case, ours: &Graph, theirs: &midden::graph::Graph) {
     let random = &mut Random::new(11);
-    let asked: Vec<(u32, u32)> =
-        (0..100_000).map(|_| (random.below(case.ids.len() as u64) as u32, random.below(case.names as u64) as u32)).collect();
-    type Ask<'a> = (&'a str, Box<dyn Fn(u32, u32) -> u64 + 'a>, Box<dyn Fn(u32, u32) -> u64 + 'a>);
+    let objects: Vec<u32> = (0..100_000).map(|_| random.below(case.ids.len() as u64) as u32).collect();
+    let any: Vec<(u32, u32)> = objects.iter().map(|&object| (object, random.below(case.names as u64) as u32)).collect();
+    let mut own = |of: fn((u32, u32)) -> u32| -> Vec<(u32, u32)> {
+        let pick = |&object: &u32| {
+            let edges: Vec<(u32, u32)> = theirs.edges(object).iter_coarse().collect();
+            (object, if edges.is_empty() { 0 } else { of(random.pick(&edges)) })
+        };
+        objects.iter().map(pick).collect()
+    };
+    let (own_targets, own_labels) = (own(|edge| edge.0), own(|edge| edge.1));
     let option = |found: Option<u32>| found.map_or(1, u64::from);
-    let all: [Ask; 5] = [
-        ("span", Box::new(|o, _| ours.span(o).unwrap().len() as u64), Box::new(|o, _| theirs.span(o).len() as u64)),
-        ("field", Box::new(move |o, l| option(ours.field(o, l).unwrap())), Box::new(move |o, l| option(theirs.field(o, l)))),
-        ("referent", Box::new(move |o, l| option(ours.referent(o, l).unwrap())), Box::new(move |o, l| option(theirs.referent(o, l)))),
-        (
-            "label_of",
-            Box::new(move |o, l| option(ours.label_of(o, l).unwrap())),
-            Box::new(move |o, l| option(theirs.label_of(o, l))),
-        ),
-        (
-            "edges with labels",
-            Box::new(|o, _| ours.edges(o).unwrap().iter().map(|(t, l)| u64::from(t ^ l)).sum()),
-            Box::new(|o, _| theirs.edges(o).iter().map(|(t, l)| u64::from(t ^ l)).sum()),
-        ),
-    ];
-    for (name, our, their) in &all {
-        let (mut our_times, mut their_times) = (Vec::new(), Vec::new());
-        for _ in 0..RUNS {
-            let a: u64 = timed(&mut our_times, || asked.iter().map(|&(o, l)| our(o, l)).sum());
-            let b: u64 = timed(&mut their_times, || asked.iter().map(|&(o, l)| their(o, l)).sum());
-            assert_eq!(a, b, "{name}");
-        }
-        line(&format!("{name}, 100,000 objects"), &mut our_times, &mut their_times);
+    question("span", &any, |o, _| ours.span(o).unwrap().len() as u64, |o, _| theirs.span(o).len() as u64);
+    question("field, its own label", &own_labels, |o, l| option(ours.field(o, l).unwrap()), |o, l| option(theirs.field(o, l)));
+    question("field, any label", &any, |o, l| option(ours.field(o, l).unwrap()), |o, l| option(theirs.field(o, l)));
+    question("referent, any label", &any, |o, l| option(ours.referent(o, l).unwrap()), |o, l| option(theirs.referent(o, l)));
+    question("label_of, its own target", &own_targets, |o, t| option(ours.label_of(o, t).unwrap()), |o, t| option(theirs.label_of(o, t)));
+    question("label_of, any target", &any, |o, t| option(ours.label_of(o, t).unwrap()), |o, t| option(theirs.label_of(o, t)));
+    question(
+        "edges with labels",
+        &any,
+        |o, _| ours.edges(o).unwrap().iter().map(|(t, l)| u64::from(t ^ l)).sum(),
+        |o, _| theirs.edges(o).iter().map(|(t, l)| u64::from(t ^ l)).sum(),
+    );
+    question(
+        "targets alone",
+        &any,
+        |o, _| ours.edges(o).unwrap().targets().iter().map(|&t| u64::from(t)).sum(),
+        |o, _| theirs.edges(o).targets().map(u64::from).sum(),
+    );
+}
+
+/// Times of a build on both sides by turns, and the two graphs.
+fn builds(case: &Case, route: Route, runs: usize) -> (Vec<f64>, Vec<f64>, Graph, midden::graph::Graph) {
+    let (mut our_times, mut their_times) = (Vec::new(), Vec::new());
+    let ready = oracle::ready(case, route);
+    let mut graphs = None;
+    for _ in 0..runs {
+        let ours = timed(&mut our_times, || Graph::build(&case.input(route)).expect("a graph"));
+        let references = (route == Route::Copied).then(|| oracle::references(case));
+        let theirs = timed(&mut their_times, || ready.build(references));
+        assert_eq!(ours.all_targets(), theirs.all_targets());
+        graphs = Some((ours, theirs));
     }
+    let (ours, theirs) = graphs.expect("a run");
+    (our_times, their_times, ours, theirs)
 }
 
 pub fn run(objects: u64) {
@@ -129,23 +158,38 @@ pub fn run(objects: u64) {
     for near in [false, true] {
         let case = case(objects, near);
         for route in ROUTES {
-            let (mut our_times, mut their_times) = (Vec::new(), Vec::new());
-            let ready = oracle::ready(&case, route);
-            let mut graphs = None;
-            for _ in 0..RUNS {
-                let ours = timed(&mut our_times, || Graph::build(&case.input(route)).expect("a graph"));
-                let references = (route == Route::Copied).then(|| oracle::references(&case));
-                let theirs = timed(&mut their_times, || ready.build(references));
-                assert_eq!(ours.all_targets(), theirs.all_targets());
-                graphs = Some((ours, theirs));
-            }
-            let (ours, theirs) = graphs.expect("a run");
+            let (mut our_times, mut their_times, ours, theirs) = builds(&case, route, RUNS);
             let targets = if near { "near" } else { "at random" };
             let what = format!("build {route:?}, {objects} objects, {} references, targets {targets}", case.codes.len());
             line(&what, &mut our_times, &mut their_times);
             if route == Route::Copied {
                 questions(&case, &ours, &theirs);
             }
+        }
+    }
+}
+
+/// The sizes of `growth`: each twice the one before.
+const SIZES: [u64; 4] = [250_000, 500_000, 1_000_000, 2_000_000];
+
+/// Time and peak memory of a build against the size of its input, targets at random.
+pub fn growth() {
+    midden::parallel::set_threads(1);
+    println!("| Build | objects | references | ours, least ms | median | ns a reference | peak MB | original, least ms | median | ns a reference | peak MB |");
+    println!("|---|---|---|---|---|---|---|---|---|---|---|");
+    for route in ROUTES {
+        for objects in SIZES {
+            let case = case(objects, false);
+            let references = case.codes.len();
+            let (mut our_times, mut their_times, ..) = builds(&case, route, 5);
+            drop(case);
+            let side = |times: &mut [f64], side: Side| {
+                let (least, median) = ends(times);
+                let peak = memory::peak(side, route, objects).map_or("not told".into(), |kilobytes| format!("{:.0}", kilobytes as f64 / 1024.0));
+                format!("{least:.1} | {median:.1} | {:.1} | {peak}", least * 1e6 / references as f64)
+            };
+            let (ours, theirs) = (side(&mut our_times, Side::Ours), side(&mut their_times, Side::Original));
+            println!("| {route:?} | {objects} | {references} | {ours} | {theirs} |");
         }
     }
 }

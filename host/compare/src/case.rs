@@ -42,7 +42,7 @@ pub struct Case {
     pub id_size: usize,
     pub body_starts: Vec<u64>,
     pub bodies: Vec<u32>,
-    /// Workers of the original, and into how many chunks its file is cut.
+    /// Threads of the original, and into how many chunks its file is cut.
     pub threads: usize,
     pub chunks: usize,
 }

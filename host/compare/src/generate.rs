@@ -18,17 +18,35 @@ pub enum Shape {
     Offsets,
 }
 
+/// Which shapes the seeds have.
+#[derive(Clone, Copy, Debug, PartialEq, Eq)]
+pub enum Mix {
+    /// A large one in eleven seeds.
+    Wide,
+    /// A large one in a hundred seeds, for many graphs in little time.
+    Quick,
+}
+
 impl Shape {
     /// Mostly small ones.
-    pub fn of_seed(seed: u64) -> Shape {
-        match seed % 100 {
-            0 => Shape::Fields,
-            1 => Shape::Gaps,
-            2 => Shape::Offsets,
-            3..=8 => Shape::Blocks,
-            _ => Shape::Small,
+    pub fn of_seed(seed: u64, mix: Mix) -> Shape {
+        match (seed % 100, mix) {
+            (0, Mix::Quick) if seed % 1000 > 200 => Shape::Blocks,
+            (1.., Mix::Quick) => Shape::Small,
+            (0, Mix::Quick) => [Shape::Fields, Shape::Gaps, Shape::Offsets][(seed / 100 % 10) as usize % 3],
+            (0, Mix::Wide) => Shape::Fields,
+            (1, Mix::Wide) => Shape::Gaps,
+            (2, Mix::Wide) => Shape::Offsets,
+            (3..=8, Mix::Wide) => Shape::Blocks,
+            (_, Mix::Wide) => Shape::Small,
         }
     }
+}
+
+/// Threads of the original: two to five for one seed in four, of each shape, for the others one.
+fn threads(seed: u64) -> usize {
+    let spread = seed + seed / 100;
+    if spread % 4 == 3 { 2 + (spread / 4 % 4) as usize } else { 1 }
 }
 
 /// Rising ids, by one of several styles.
@@ -122,7 +140,7 @@ fn elements(random: &mut Random, shape: Shape, ids: &[u64], most: u64, first: bo
 
 pub fn case(seed: u64, shape: Shape) -> Case {
     let random = &mut Random::new(seed);
-    let mut case = Case { id_size: random.pick(&[4, 8]), threads: 1 + random.below(4) as usize, ..Case::default() };
+    let mut case = Case { id_size: random.pick(&[4, 8]), threads: threads(seed), ..Case::default() };
     case.chunks = 1 + random.below(4) as usize;
     (case.soft, case.weak) = (random.chance(2), random.chance(2));
     let most = if case.id_size == 4 { u64::from(u32::MAX) } else { u64::MAX };
@@ -283,14 +301,14 @@ impl OwnParts {
 }
 
 /// Plain columns with any name, loaders anywhere, and elements that rise among them with gaps at the boundaries.
-pub fn parts(case: &Case, random: &mut Random) -> OwnParts {
-    let objects = case.ids.len() as u64;
+pub fn parts(objects: usize, names: usize, random: &mut Random) -> OwnParts {
+    let objects = objects as u64;
     let mut parts = OwnParts { offsets: vec![0], dangling: random.next(), ..OwnParts::default() };
     for _ in 0..objects {
         let mut next = 0u64;
         for _ in 0..random.below(9) {
             let label = match random.below(4) {
-                0 if case.names > 0 => random.below(case.names as u64) as u32,
+                0 if names > 0 => random.below(names.min(1 << 30) as u64) as u32,
                 1 => yokefathom::LOADER,
                 _ => {
                     let index = next + random.pick(&[0, 0, 1, 5, 32_765, 32_766, 32_767, 32_768, 1 << 29]);
@@ -313,4 +331,38 @@ pub fn parts(case: &Case, random: &mut Random) -> OwnParts {
         parts.roots = (0..random.below(6)).map(|_| random.below(objects) as u32).collect();
     }
     parts
+}
+
+/// Breaks plain columns, or not quite, in one to three places.
+pub fn damage_parts(parts: &mut OwnParts, names: usize, random: &mut Random) {
+    for _ in 0..1 + random.below(3) {
+        damage_parts_once(parts, names, random);
+    }
+}
+
+fn damage_parts_once(parts: &mut OwnParts, names: usize, random: &mut Random) {
+    let near = |random: &mut Random, n: usize| (n as u64 + random.below(3)).saturating_sub(1) as u32;
+    let objects = parts.offsets.len().saturating_sub(1);
+    let object = near(random, objects);
+    match random.below(8) {
+        0 | 1 => {
+            let edges = u64::from(near(random, parts.labels.len()));
+            hit(&mut parts.offsets, random, &[edges, 0, 1, u64::MAX]);
+        }
+        2 | 3 => {
+            let name = near(random, names.min(1 << 30));
+            let (loader, element) = (yokefathom::LOADER, yokefathom::ARRAY_ELEMENT);
+            hit(&mut parts.labels, random, &[name, loader - 1, loader, element, element + 1, element + 6, u32::MAX]);
+        }
+        4 => hit(&mut parts.targets, random, &[object, 0, u32::MAX]),
+        5 => hit(&mut parts.weak_from, random, &[object, 0, u32::MAX]),
+        6 => hit(&mut parts.weak_to, random, &[object, 0, u32::MAX]),
+        _ => hit(&mut parts.roots, random, &[object, 0, u32::MAX]),
+    }
+    // A row more or less of a pair is LENGTHS; let the pairs mostly stay one table.
+    if parts.weak_from.len() != parts.weak_to.len() && !random.chance(4) {
+        let both = parts.weak_from.len().min(parts.weak_to.len());
+        parts.weak_from.truncate(both);
+        parts.weak_to.truncate(both);
+    }
 }

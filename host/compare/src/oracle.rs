@@ -36,6 +36,12 @@ fn classes(case: &Case) -> Vec<Class> {
     (0..case.class_ids.len()).map(class).chain([Class::placeholder(String::new(), 0)]).collect()
 }
 
+/// A dump with the case's classes and names, and no object: all that `from_parts` reads.
+fn schema_dump(case: &Case) -> Dump {
+    let none = Case { ids: Vec::new(), roots: Vec::new(), ..case.clone() };
+    dump(&none, Vec::new())
+}
+
 pub fn dump(case: &Case, chunks: Vec<(u64, u64)>) -> Dump {
     let classes = classes(case);
     let class_class = classes.len() as u32 - 1;
@@ -184,7 +190,7 @@ pub fn from_parts(case: &Case, parts: &yokefathom::Parts<'_>) -> Graph {
         parts.offsets.iter().copied().collect(),
         parts.targets.iter().copied().collect(),
         parts.labels.iter().copied().collect(),
-        &dump(case, Vec::new()),
+        &schema_dump(case),
         parts.weak_from.iter().copied().zip(parts.weak_to.iter().copied()).collect(),
         parts.dangling,
         parts.roots.to_vec(),
