@@ -1,0 +1,140 @@
+// The numbers of a case beside its columns, and whether its lists are such that it can be built.
+use crate::arrays;
+use crate::fault::Fault;
+use crate::lists;
+use crate::rooms;
+use rules::ReferencePolicy;
+
+pub(crate) struct Numbers {
+    pub(crate) raw: bool,
+    pub(crate) soft: bool,
+    pub(crate) weak: bool,
+    pub(crate) names: usize,
+    pub(crate) base: u64,
+    pub(crate) size: usize,
+    pub(crate) objects: usize,
+    // Which of the case's sets of rooms is lent.
+    pub(crate) set: usize,
+}
+
+pub(crate) enum Sound {
+    Yes,
+    No(Fault),
+}
+
+pub(crate) fn policy_of(n: Numbers) -> ReferencePolicy {
+    ReferencePolicy {
+        soft: n.soft,
+        weak: n.weak,
+    }
+}
+
+fn number(xs: &[u64], k: usize) -> u64 {
+    if k < xs.len() { xs[k] } else { 0 }
+}
+
+pub(crate) fn numbers_of<'a>(words: &'a [u64], cuts: &'a [usize]) -> Numbers {
+    let own = lists::of_u64(words, cuts, lists::NUMBERS);
+    let ids = lists::of_u64(words, cuts, lists::IDS);
+    Numbers {
+        raw: number(own, 0) == 1,
+        soft: number(own, 1) == 1,
+        weak: number(own, 2) == 1,
+        names: number(own, 3) as usize,
+        base: number(own, 4),
+        size: number(own, 5) as usize,
+        objects: ids.len(),
+        set: 0,
+    }
+}
+
+// Six numbers, of which the route and the policy are 0 or 1.
+fn sound_numbers(own: &[u64]) -> bool {
+    if own.len() != 6 {
+        return false;
+    }
+    own[0] < 2 && own[1] < 2 && own[2] < 2
+}
+
+// The arrays that rooms are lent of, in the order of the rooms.
+const MOST: [usize; 17] = [
+    arrays::EDGES,
+    arrays::EDGES,
+    rooms::ROWS,
+    rooms::ROWS,
+    rooms::ROWS,
+    rooms::ROWS,
+    rooms::BLOCKS,
+    rooms::ROWS,
+    rooms::ROWS,
+    rooms::ROWS,
+    arrays::NAMED,
+    arrays::NAMED,
+    rooms::ROWS,
+    rooms::ROWS,
+    arrays::EDGES,
+    arrays::NAMED,
+    arrays::NAMED,
+];
+
+fn fits(k: usize, asked: u64) -> bool {
+    let most = MOST[k % 17];
+    asked <= most as u64
+}
+
+// One set of seventeen rooms or several, none of them over its array.
+fn sound_rooms(asked: &[u64]) -> bool {
+    if asked.len() % 17 != 0 {
+        return false;
+    }
+    let mut k = 0;
+    while k < asked.len() {
+        if !fits(k, asked[k]) {
+            return false;
+        }
+        k += 1;
+    }
+    0 < k
+}
+
+// A set of rooms.
+pub(crate) fn rooms_of<'a>(words: &'a [u64], cuts: &'a [usize], set: usize) -> &'a [u64] {
+    let all = lists::of_u64(words, cuts, lists::ROOMS);
+    if all.len() / 17 <= set {
+        return &all[0..0];
+    }
+    let start = set * 17;
+    &all[start..]
+}
+
+pub(crate) fn sets_of<'a>(words: &'a [u64], cuts: &'a [usize]) -> usize {
+    lists::of_u64(words, cuts, lists::ROOMS).len() / 17
+}
+
+pub(crate) fn with_set(mut n: Numbers, set: usize) -> Numbers {
+    n.set = set;
+    n
+}
+
+fn pairs(xs: &[u32]) -> bool {
+    xs.len() % 2 == 0
+}
+
+pub(crate) fn soundness<'a>(halves: &'a [u32], words: &'a [u64], cuts: &'a [usize]) -> Sound {
+    if !sound_numbers(lists::of_u64(words, cuts, lists::NUMBERS)) {
+        return Sound::No(Fault::WrongNumbers);
+    }
+    if !sound_rooms(lists::of_u64(words, cuts, lists::ROOMS)) {
+        return Sound::No(Fault::WrongRooms);
+    }
+    if !pairs(lists::of_u32(halves, cuts, lists::FIELD)) {
+        return Sound::No(Fault::OddQuestions);
+    }
+    if !pairs(lists::of_u32(halves, cuts, lists::REFERENT)) {
+        return Sound::No(Fault::OddQuestions);
+    }
+    if !pairs(lists::of_u32(halves, cuts, lists::LABEL_OF)) {
+        return Sound::No(Fault::OddQuestions);
+    }
+    Sound::Yes
+}
