@@ -1,10 +1,12 @@
 // The slots of an instance and the elements of an array by the copied route: their ids stand in order in the codes.
+use super::escape::id_from;
 use graph::Pass;
 use graph::append;
 ghost use mathlib.Core.Path.{_≡_};
 ghost use Prim.Native.Nat.{_+_, _^_, _≤_, _<_};
 ghost use lib.ListN.{length};
 ghost use Rattle.columns.specs.Lists.{tab};
+ghost use Rattle.columns.specs.Ranks.{Rises};
 ghost use Rattle.index.specs.Copied.{idsOf};
 ghost use Rattle.rules.specs.Input.{copiedId};
 ghost use Rattle.graph.specs.Append.{Room, Appended};
@@ -27,7 +29,7 @@ pub fn id_held(
     }
 }
 
-// The first `count` slots from `first` on, whose ids stand from `start` on.
+// The first `count` slots from `first` on, whose ids stand from `start` on; escapes are sought from row `row` on.
 fn slots(
     from: Pass,
     ids: &[u64],
@@ -36,6 +38,7 @@ fn slots(
     escape_ids: &[u64],
     base: u64,
     start: usize,
+    row: usize,
     slot_labels: &[u32],
     slot_weak: &[u8],
     keeps: bool,
@@ -47,14 +50,17 @@ fn slots(
     labels: &mut [u32],
     weak: &mut [u32],
 ) -> Pass
+    requires { ⌜ Rises (now «escape_places») ⌝ }
     requires { ⌜ (first + count ≤ length (now «slot_labels»)) × (first + count ≤ length (now «slot_weak»)) × (start + count < 2 ^ 64) ⌝ }
     requires { ⌜ Room (now ids) (tab (copiedSlot (idsOf (now codes) (now «escape_places») (now «escape_ids») base) start (now «slot_labels») (now «slot_weak») keeps first) count) from (length (now targets)) (length (now labels)) (length (now weak)) ⌝ }
     ensures { λ q. ⌜ Appended (now (ids .entry)) (tab (copiedSlot (idsOf (now (codes .entry)) (now («escape_places» .entry)) (now («escape_ids» .entry)) base) start (now («slot_labels» .entry)) (now («slot_weak» .entry)) keeps first) count) from q (now (targets .entry)) (now (labels .entry)) (now (weak .entry)) (now (targets .exit)) (now (labels .exit)) (now (weak .exit)) ⌝ }
 {
     let mut s = from;
+    let mut cursor = row;
     let mut k = 0;
     while k < count {
-        let id = id_held(codes, escape_places, escape_ids, base, start + k);
+        let read = id_from(codes, escape_places, escape_ids, base, start + k, cursor);
+        cursor = read.row;
         s = append::append_slot(
             s,
             ids,
@@ -62,7 +68,7 @@ fn slots(
             slot_weak,
             keeps,
             first + k,
-            id,
+            read.id,
             hints,
             scale,
             targets,
@@ -83,6 +89,7 @@ fn elements(
     escape_ids: &[u64],
     base: u64,
     start: usize,
+    row: usize,
     count: usize,
     hints: &[u32],
     scale: u32,
@@ -90,15 +97,18 @@ fn elements(
     labels: &mut [u32],
     weak: &mut [u32],
 ) -> Pass
+    requires { ⌜ Rises (now «escape_places») ⌝ }
     requires { ⌜ (count ≤ 2 ^ 31) × (start + count < 2 ^ 64) ⌝ }
     requires { ⌜ Room (now ids) (tab (copiedElement (idsOf (now codes) (now «escape_places») (now «escape_ids») base) start) count) from (length (now targets)) (length (now labels)) (length (now weak)) ⌝ }
     ensures { λ q. ⌜ Appended (now (ids .entry)) (tab (copiedElement (idsOf (now (codes .entry)) (now («escape_places» .entry)) (now («escape_ids» .entry)) base) start) count) from q (now (targets .entry)) (now (labels .entry)) (now (weak .entry)) (now (targets .exit)) (now (labels .exit)) (now (weak .exit)) ⌝ }
 {
     let mut s = from;
+    let mut cursor = row;
     let mut k = 0;
     while k < count {
-        let id = id_held(codes, escape_places, escape_ids, base, start + k);
-        s = append::append_element(s, ids, k, id, hints, scale, targets, labels, weak);
+        let read = id_from(codes, escape_places, escape_ids, base, start + k, cursor);
+        cursor = read.row;
+        s = append::append_element(s, ids, k, read.id, hints, scale, targets, labels, weak);
         k += 1;
     }
     s
@@ -113,6 +123,7 @@ pub fn object_slots(
     escape_ids: &[u64],
     base: u64,
     start: usize,
+    row: usize,
     class_kinds: &[u8],
     slot_start: &[u32],
     slot_end: &[u32],
@@ -127,6 +138,7 @@ pub fn object_slots(
     labels: &mut [u32],
     weak: &mut [u32],
 ) -> Pass
+    requires { ⌜ Rises (now «escape_places») ⌝ }
     requires { ⌜ SlotsIn (now «class_kinds») (now «slot_start») (now «slot_end») (length (now «slot_labels»)) (length (now «slot_weak»)) kind class start ⌝ }
     requires { ⌜ Room (now ids) (copiedSlots (idsOf (now codes) (now «escape_places») (now «escape_ids») base) start (now «class_kinds») (now «slot_start») (now «slot_end») (now «slot_labels») (now «slot_weak») policy kind class) s (length (now targets)) (length (now labels)) (length (now weak)) ⌝ }
     ensures { λ q. ⌜ Appended (now (ids .entry)) (copiedSlots (idsOf (now (codes .entry)) (now («escape_places» .entry)) (now («escape_ids» .entry)) base) start (now («class_kinds» .entry)) (now («slot_start» .entry)) (now («slot_end» .entry)) (now («slot_labels» .entry)) (now («slot_weak» .entry)) policy kind class) s q (now (targets .entry)) (now (labels .entry)) (now (weak .entry)) (now (targets .exit)) (now (labels .exit)) (now (weak .exit)) ⌝ }
@@ -145,6 +157,7 @@ pub fn object_slots(
         escape_ids,
         base,
         start,
+        row,
         slot_labels,
         slot_weak,
         keeps,
@@ -167,6 +180,7 @@ pub fn object_elements(
     escape_ids: &[u64],
     base: u64,
     start: usize,
+    row: usize,
     kind: u8,
     count: usize,
     hints: &[u32],
@@ -175,6 +189,7 @@ pub fn object_elements(
     labels: &mut [u32],
     weak: &mut [u32],
 ) -> Pass
+    requires { ⌜ Rises (now «escape_places») ⌝ }
     requires { ⌜ (kind ≡ 1 → (count ≤ 2 ^ 31) × (start + count < 2 ^ 64)) ⌝ }
     requires { ⌜ Room (now ids) (copiedElements (idsOf (now codes) (now «escape_places») (now «escape_ids») base) start kind count) s (length (now targets)) (length (now labels)) (length (now weak)) ⌝ }
     ensures { λ q. ⌜ Appended (now (ids .entry)) (copiedElements (idsOf (now (codes .entry)) (now («escape_places» .entry)) (now («escape_ids» .entry)) base) start kind count) s q (now (targets .entry)) (now (labels .entry)) (now (weak .entry)) (now (targets .exit)) (now (labels .exit)) (now (weak .exit)) ⌝ }
@@ -190,6 +205,7 @@ pub fn object_elements(
         escape_ids,
         base,
         start,
+        row,
         count,
         hints,
         scale,

@@ -9,12 +9,13 @@ use held::raw;
 ghost use mathlib.Core.Path.{_≡_};
 ghost use Prim.Native.Nat.{_+_, _*_, _^_, _≤_, _<_};
 ghost use lib.ListN.{length};
+ghost use Rattle.columns.specs.Ranks.{Rises};
 ghost use Rattle.index.specs.Copied.{idsOf};
 ghost use Rattle.graph.specs.Held.{SlotsIn, StaticsIn};
 ghost use Rattle.graph.specs.Raw.{BodyIn};
 ghost use Rattle.graph.specs.Object.{copiedParts, rawParts, Ready, Done};
 
-// By the copied route.
+// By the copied route; escapes are sought from row `row` on.
 pub fn object_copied(
     from: Pass,
     object: usize,
@@ -22,6 +23,7 @@ pub fn object_copied(
     class: usize,
     count: usize,
     start: usize,
+    row: usize,
     mark: usize,
     policy: rules::ReferencePolicy,
     ids: &[u64],
@@ -48,6 +50,7 @@ pub fn object_copied(
     weak_to: &mut [u32],
     account: &mut [[u64; 3]; 4],
 ) -> Pass
+    requires { ⌜ Rises (now «escape_places») ⌝ }
     requires { ⌜ object < 2 ^ 32 ⌝ }
     requires { ⌜ SlotsIn (now «class_kinds») (now «slot_start») (now «slot_end») (length (now «slot_labels»)) (length (now «slot_weak»)) kind class start ⌝ }
     requires { ⌜ (kind ≡ 1 → (count ≤ 2 ^ 31) × (start + count < 2 ^ 64)) ⌝ }
@@ -64,6 +67,7 @@ pub fn object_copied(
         escape_ids,
         base,
         start,
+        row,
         class_kinds,
         slot_start,
         slot_end,
@@ -86,6 +90,7 @@ pub fn object_copied(
         escape_ids,
         base,
         start,
+        row,
         kind,
         count,
         hints,

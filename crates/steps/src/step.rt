@@ -5,6 +5,7 @@ ghost use mathlib.Core.Path.{_≡_};
 ghost use Prim.Native.Nat.{_+_, _*_, _^_, _≤_, _<_};
 ghost use lib.ListN.{length, set};
 ghost use Rattle.columns.specs.Lists.{_!_};
+ghost use Rattle.columns.specs.Ranks.{Rises};
 ghost use Rattle.index.specs.Copied.{idsOf};
 ghost use Rattle.graph.specs.Held.{SlotsIn, StaticsIn};
 ghost use Rattle.graph.specs.Raw.{BodyIn};
@@ -14,6 +15,7 @@ ghost use Rattle.graph.specs.Object.{copiedParts, rawParts, Ready, Done};
 pub fn step_copied(
     from: Pass,
     o: usize,
+    row: usize,
     policy: rules::ReferencePolicy,
     kinds: &[u8],
     classes: &[u32],
@@ -44,6 +46,7 @@ pub fn step_copied(
     weak_to: &mut [u32],
     account: &mut [[u64; 3]; 4],
 ) -> Pass
+    requires { ⌜ Rises (now «escape_places») ⌝ }
     requires { ⌜ o < 2 ^ 32 ⌝ }
     requires { ⌜ (o < length (now kinds)) × (o < length (now classes)) × (o < length (now lengths)) × (o < length (now starts)) × (o + 1 < length (now working)) ⌝ }
     requires { ⌜ SlotsIn (now «class_kinds») (now «slot_start») (now «slot_end») (length (now «slot_labels»)) (length (now «slot_weak»)) (now kinds ! o) (now classes ! o) (now starts ! o) ⌝ }
@@ -66,6 +69,7 @@ pub fn step_copied(
         class,
         count,
         start,
+        row,
         mark,
         policy,
         ids,

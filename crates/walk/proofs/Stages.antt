@@ -3,17 +3,22 @@ use Prim.Native.Nat.{ℕ, suc, _+_, _<_}
 use native.Mathlib.Omega.{arith}
 use mathlib.Core.Path.{_≡_, refl, sym, ap, subst, _∙_}
 use mathlib.Core.Bool.{Bool, true, false, false≢true}
-use mathlib.Core.List.{List, [], _∷_, map}
+use mathlib.Core.List.{List, [], _∷_, _++_, map}
 use lib.ListN.{length, length-map}
 use lib.Seq.{sets}
-use Rattle.columns.specs.Lists.{_!_, tab}
+use borrow.Author.Tests.{leb-false, lt-ltb}
+use Rattle.columns.specs.Lists.{_!_, tab, places}
 use Rattle.columns.specs.Columns.{over, accepts}
+use Rattle.columns.specs.Ranks.{Rises}
 use Rattle.columns.proofs.Lists.{tab-length}
+use Rattle.columns.proofs.Tests.{append-empty, places-none, second-fails}
+use Rattle.input.proofs.Laws.{steps-rise}
 use Rattle.rules.specs.declared.Built.{Built}
 use Rattle.rules.specs.declared.Built.the-variants as Built
 use Rattle.rules.specs.Types.{builtSays}
-use Rattle.rules.specs.Input.{Input, Route, Route.copied, Route.raw, objectCount}
+use Rattle.rules.specs.Input.{Input, Copied, Route, Route.copied, Route.raw, objectCount}
 use Rattle.rules.specs.Edges.{edges, graph}
+use Rattle.rules.specs.Verdict.{falls, badCode, badEscape, badCopied}
 use Rattle.rules.specs.Needs.{needWeak}
 use Rattle.rules.specs.Account.{account, noAccount}
 use Rattle.rules.proofs.Acceptance.{Passed, check-passed, objects-few, ids-rise}
@@ -96,6 +101,17 @@ pass-is q a b c = rw (← a, ← b, ← c)
 module _ (x : Input) {nt nl nf nw : ℕ} {wk : List ℕ} {a : List (List ℕ)} (d : Handed x nt nl nf nw wk a) where
   passed : Passed x
   passed = check-passed x (d .accepted)
+
+  -- "The first escape not rising": of an accepted input there is none.
+  pub handed-escapes : (c : Copied) → x .route ≡ copied c → Rises (c .ids .places)
+  unfolding badCopied
+  handed-escapes c e =
+      let ps = c .ids .places in
+      let fallen = places (falls ps) (length ps) in
+      let bad = places (badCode (c .ids)) (length (c .ids .codes)) in
+      let both = append-empty (fallen ++ bad) (places (badEscape (c .ids)) (length ps)) (sym (ap badCopied e) ∙ passed .copied) .0 in
+      let none = append-empty fallen bad both .0 in
+      steps-rise ps (λ i l. leb-false (ps ! suc i) (ps ! i) (second-fails _ _ (places-none (falls ps) (length ps) (suc i) none l) (lt-ltb 0 (suc i) (omega arith))))
 
   pub handed-objects : CodesFit (x .route) → (i : ℕ) → i < objectCount x → ObjectIn (narrow x) wk (0 + i)
   handed-objects f i l =

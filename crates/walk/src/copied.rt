@@ -8,6 +8,7 @@ ghost use mathlib.Core.List.{[]};
 ghost use Prim.Native.Nat.{ℕ, _+_, _<_};
 ghost use lib.ListN.{length};
 ghost use Rattle.columns.specs.Columns.{accepts};
+ghost use Rattle.columns.specs.Ranks.{Rises};
 ghost use Rattle.rules.specs.Types.{builtSays};
 ghost use Rattle.graph.specs.Account.{AccountIn};
 ghost use Rattle.walk.specs.Tables.{copiedInput};
@@ -15,7 +16,7 @@ ghost use Rattle.walk.specs.Range.{partsFrom, ObjectIn};
 ghost use Rattle.walk.specs.Walk.{Walked, WalkRoom};
 ghost use Rattle.walk.specs.Stage.{Handed, Edged};
 
-// The first `count` objects from `first` on, from the state that the pass before handed on.
+// The first `count` objects from `first` on, from the state that the pass before handed on. A cursor goes along the escapes with them.
 pub fn walk_copied(
     from: Pass,
     first: usize,
@@ -50,17 +51,21 @@ pub fn walk_copied(
     weak_to: &mut [u32],
     account: &mut [[u64; 3]; 4],
 ) -> Pass
+    requires { ⌜ Rises (now «escape_places») ⌝ }
     requires { ⌜ ((i : ℕ) → i < count → ObjectIn (copiedInput (now ids) (now kinds) (now classes) (now lengths) [] (now loaders) [] (now «class_kinds») (now «slot_start») (now «slot_end») (now «static_start») (now «static_end») [] (now «slot_labels») (now «slot_weak») (now names) (now types) (now values) 0 (now codes) (now «escape_places») (now «escape_ids») base (now starts) [] policy) (now working) (first + i)) ⌝ }
     requires { ⌜ WalkRoom (now ids) (partsFrom (copiedInput (now ids) (now kinds) (now classes) (now lengths) [] (now loaders) [] (now «class_kinds») (now «slot_start») (now «slot_end») (now «static_start») (now «static_end») [] (now «slot_labels») (now «slot_weak») (now names) (now types) (now values) 0 (now codes) (now «escape_places») (now «escape_ids») base (now starts) [] policy) (now working) first) count from (length (now targets)) (length (now labels)) (length (now «weak_from»)) (length (now «weak_to»)) ⌝ }
     requires { ⌜ AccountIn (now account) from ⌝ }
     ensures { λ q. ⌜ Walked (now (ids .entry)) (partsFrom (copiedInput (now (ids .entry)) (now (kinds .entry)) (now (classes .entry)) (now (lengths .entry)) [] (now (loaders .entry)) [] (now («class_kinds» .entry)) (now («slot_start» .entry)) (now («slot_end» .entry)) (now («static_start» .entry)) (now («static_end» .entry)) [] (now («slot_labels» .entry)) (now («slot_weak» .entry)) (now (names .entry)) (now (types .entry)) (now (values .entry)) 0 (now (codes .entry)) (now («escape_places» .entry)) (now («escape_ids» .entry)) base (now (starts .entry)) [] policy) (now (working .entry)) first) first count from q (now (targets .entry)) (now (labels .entry)) (now («weak_from» .entry)) (now («weak_to» .entry)) (now (working .entry)) (now (account .entry)) (now (targets .exit)) (now (labels .exit)) (now («weak_from» .exit)) (now («weak_to» .exit)) (now (working .exit)) (now (account .exit)) ⌝ }
 {
     let mut s = from;
+    let mut row = 0;
     let mut k = 0;
     while k < count {
+        row = lookup::near(escape_places, columns::wide(starts[first + k]), row);
         s = step::step_copied(
             s,
             first + k,
+            row,
             policy,
             kinds,
             classes,

@@ -12,24 +12,27 @@ use Rattle.held.proofs.copied.elements.Statement.{statement}
 use Rattle.held.proofs.copied.elements.Tie as tie
 
 abbrev Inv-loop : tie.InvT-loop
-Inv-loop ids codes escape-places escape-ids base start count hints scale targets₀ labels₀ weak₀ s₀ k₀ targets labels weak s k = (k ≤ count) × Appended ids (tab (copiedElement (idsOf codes escape-places escape-ids base) start) k) s₀ s targets₀ labels₀ weak₀ targets labels weak
+Inv-loop ids codes escape-places escape-ids base start row count hints scale targets₀ labels₀ weak₀ s₀ cursor₀ k₀ targets labels weak s cursor k = (k ≤ count) × Appended ids (tab (copiedElement (idsOf codes escape-places escape-ids base) start) k) s₀ s targets₀ labels₀ weak₀ targets labels weak
 
 abbrev μ-loop : tie.MeasureT-loop
-μ-loop ids codes escape-places escape-ids base start count hints scale targets₀ labels₀ weak₀ s₀ k₀ targets labels weak s k = count - k
+μ-loop ids codes escape-places escape-ids base start row count hints scale targets₀ labels₀ weak₀ s₀ cursor₀ k₀ targets labels weak s cursor k = count - k
 
 loop-holds : tie.Need-loop-holds Inv-loop μ-loop
 loop-holds c = (search needs, tab-none _)
 
+id-from-requires : tie.Need-id-from-requires Inv-loop μ-loop
+id-from-requires c κs = c .before .before .before .before .before .before .before .before .before .before .pre .0
+
 append-element-requires : tie.Need-append-element-requires Inv-loop μ-loop
 append-element-requires c κs =
     let a = c .before .before .before .before .before .before .before .before .before .before .before .before .before .before .args in
-    let e = copied-element (idsOf (a .codes .now) (a .escape-places .now) (a .escape-ids .now) (a .base)) (a .start) (c .before .before .before .before .before .loop .k) (c .before .before .before .id-held .ensures) in
-    (search needs, tab-room (copiedElement (idsOf (a .codes .now) (a .escape-places .now) (a .escape-ids .now) (a .base)) (a .start)) (c .before .before .before .before .before .loop .k) (c .before .before .before .before .before .loop .inv .1) e (a .count) (c .before .before .before .before .loop-test .taken) (c .before .before .before .before .before .before .before .before .before .before .before .before .before .before .pre .1))
+    let e = copied-element (idsOf (a .codes .now) (a .escape-places .now) (a .escape-ids .now) (a .base)) (a .start) (c .before .before .before .before .before .loop .k) (c .before .before .before .id-from .ensures) in
+    (search needs, tab-room (copiedElement (idsOf (a .codes .now) (a .escape-places .now) (a .escape-ids .now) (a .base)) (a .start)) (c .before .before .before .before .before .loop .k) (c .before .before .before .before .before .loop .inv .1) e (a .count) (c .before .before .before .before .loop-test .taken) (c .before .before .before .before .before .before .before .before .before .before .before .before .before .before .pre .1 .1))
 
 loop-again : tie.Need-loop-again Inv-loop μ-loop
 loop-again c =
     let a = c .before .before .before .before .before .before .before .before .before .before .before .before .before .before .before .before .before .before .before .before .before .args in
-    let e = copied-element (idsOf (a .codes .now) (a .escape-places .now) (a .escape-ids .now) (a .base)) (a .start) (c .before .before .before .before .before .before .before .before .before .before .before .before .loop .k) (c .before .before .before .before .before .before .before .before .before .before .id-held .ensures) in
+    let e = copied-element (idsOf (a .codes .now) (a .escape-places .now) (a .escape-ids .now) (a .base)) (a .start) (c .before .before .before .before .before .before .before .before .before .before .before .before .loop .k) (c .before .before .before .before .before .before .before .before .before .before .id-from .ensures) in
     (search needs, tab-more (copiedElement (idsOf (a .codes .now) (a .escape-places .now) (a .escape-ids .now) (a .base)) (a .start)) (c .before .before .before .before .before .before .before .before .before .before .before .before .loop .k) (c .before .before .before .before .before .before .before .before .before .before .before .before .loop .inv .1) e (c .before .before .before .before .before .before .append-element .ensures))
 
 same-length : tie.Need-same-length Inv-loop μ-loop
@@ -54,7 +57,7 @@ elements-spec =
     μ-loop
     loop-holds
     (λ c. search needs)
-    (λ c κs. search needs)
+    id-from-requires
     append-element-requires
     (λ c. search needs)
     (λ c. search needs)

@@ -13,7 +13,7 @@ returns c =
 elements-requires : tie.Need-elements-requires
 elements-requires c κs =
     let a = c .before .before .before .before .before .before .before .before .before .before .before .before .args in
-    (c .before .before .before .before .before .before .before .before .before .before .before .before .pre .0 (c .before .before .before .if1 .left), rw (elements-some (idsOf (a .codes .now) (a .escape-places .now) (a .escape-ids .now) (a .base)) (a .start) (a .kind) (a .count) (c .before .before .before .if1 .left)) (c .before .before .before .before .before .before .before .before .before .before .before .before .pre .1))
+    (c .before .before .before .before .before .before .before .before .before .before .before .before .pre .0, (c .before .before .before .before .before .before .before .before .before .before .before .before .pre .1 .0 (c .before .before .before .if1 .left), rw (elements-some (idsOf (a .codes .now) (a .escape-places .now) (a .escape-ids .now) (a .base)) (a .start) (a .kind) (a .count) (c .before .before .before .if1 .left)) (c .before .before .before .before .before .before .before .before .before .before .before .before .pre .1 .1)))
 
 same-length : tie.Need-same-length
 same-length c = same-targets (c .before .before .before .before .before .before .elements .ensures)

@@ -14,36 +14,36 @@ returns c =
 
 shared-slice-read-keeps : tie.Need-shared-slice-read-keeps
 shared-slice-read-keeps c =
-    omega (arith, c .before .before .before .before .before .before .before .before .before .before .before .before .before .before .before .pre .0 .kind-in (c .before .if1 .left))
+    omega (arith, c .before .before .before .before .before .before .before .before .before .before .before .before .before .before .before .pre .1 .0 .kind-in (c .before .if1 .left))
 
 mul-index : tie.Need-mul-index
 mul-index c =
-    omega (arith, c .before .before .before .before .before .before .before .before .before .before .before .before .before .before .before .before .pre .0 .start-in (c .before .before .if1 .left))
+    omega (arith, c .before .before .before .before .before .before .before .before .before .before .before .before .before .before .before .before .pre .1 .0 .start-in (c .before .before .if1 .left))
 
 shared-slice-read-index : tie.Need-shared-slice-read-index
 shared-slice-read-index c =
-    omega (arith, c .before .before .before .before .before .before .before .before .before .before .before .before .before .before .before .before .before .pre .0 .start-in (c .before .before .before .if1 .left))
+    omega (arith, c .before .before .before .before .before .before .before .before .before .before .before .before .before .before .before .before .before .pre .1 .0 .start-in (c .before .before .before .if1 .left))
 
 mul-index-2 : tie.Need-mul-index-2
 mul-index-2 c =
-    omega (arith, c .before .before .before .before .before .before .before .before .before .before .before .before .before .before .before .before .before .before .pre .0 .end-in (c .before .before .before .before .if1 .left))
+    omega (arith, c .before .before .before .before .before .before .before .before .before .before .before .before .before .before .before .before .before .before .pre .1 .0 .end-in (c .before .before .before .before .if1 .left))
 
 shared-slice-read-index-2 : tie.Need-shared-slice-read-index-2
 shared-slice-read-index-2 c =
-    omega (arith, c .before .before .before .before .before .before .before .before .before .before .before .before .before .before .before .before .before .before .before .pre .0 .end-in (c .before .before .before .before .before .if1 .left))
+    omega (arith, c .before .before .before .before .before .before .before .before .before .before .before .before .before .before .before .before .before .before .before .pre .1 .0 .end-in (c .before .before .before .before .before .if1 .left))
 
 sub-count : tie.Need-sub-count
 sub-count c =
-    omega (arith, c .before .before .index .ensures, c .index2 .ensures, c .before .before .before .before .before .before .before .before .before .before .before .before .before .before .before .before .before .before .before .before .pre .0 .ordered (c .before .before .before .before .before .before .if1 .left))
+    omega (arith, c .before .before .index .ensures, c .index2 .ensures, c .before .before .before .before .before .before .before .before .before .before .before .before .before .before .before .before .before .before .before .before .pre .1 .0 .ordered (c .before .before .before .before .before .before .if1 .left))
 
 slots-requires : tie.Need-slots-requires
 slots-requires c κs =
     let a = c .before .before .before .before .before .before .before .before .before .before .before .before .before .before .before .before .before .before .before .before .before .before .before .args in
-    let f = c .before .before .before .before .before .before .before .before .before .before .before .before .before .before .before .before .before .before .before .before .before .before .before .pre .0 in
+    let f = c .before .before .before .before .before .before .before .before .before .before .before .before .before .before .before .before .before .before .before .before .before .before .before .pre .1 .0 in
     let z = c .before .before .before .before .before .before .before .before .before .if1 .left in
     let e = c .before .before .before .before .before .index .ensures in
     let g = c .before .before .before .index2 .ensures in
-    ((omega (arith, e, g, f .ordered z, f .labels-in z), omega (arith, e, g, f .ordered z, f .weak-in z), omega (arith, e, g, f .held z)), rw (slots-some (idsOf (a .codes .now) (a .escape-places .now) (a .escape-ids .now) (a .base)) (a .start) (a .class-kinds .now) (a .slot-start .now) (a .slot-end .now) (a .slot-labels .now) (a .slot-weak .now) (a .policy) (a .kind) (a .class) (c .before .before .before .before .before .before .before .before .before .if1 .left) (c .before .before .before .before .before .before .before .keeps .ensures) (c .before .before .before .before .before .index .ensures) (c .before .before .before .index2 .ensures)) (c .before .before .before .before .before .before .before .before .before .before .before .before .before .before .before .before .before .before .before .before .before .before .before .pre .1))
+    (c .before .before .before .before .before .before .before .before .before .before .before .before .before .before .before .before .before .before .before .before .before .before .before .pre .0, ((omega (arith, e, g, f .ordered z, f .labels-in z), omega (arith, e, g, f .ordered z, f .weak-in z), omega (arith, e, g, f .held z)), rw (slots-some (idsOf (a .codes .now) (a .escape-places .now) (a .escape-ids .now) (a .base)) (a .start) (a .class-kinds .now) (a .slot-start .now) (a .slot-end .now) (a .slot-labels .now) (a .slot-weak .now) (a .policy) (a .kind) (a .class) (c .before .before .before .before .before .before .before .before .before .if1 .left) (c .before .before .before .before .before .before .before .keeps .ensures) (c .before .before .before .before .before .index .ensures) (c .before .before .before .index2 .ensures)) (c .before .before .before .before .before .before .before .before .before .before .before .before .before .before .before .before .before .before .before .before .before .before .before .pre .1 .1)))
 
 same-length : tie.Need-same-length
 same-length c = same-targets (c .before .before .before .before .before .before .slots .ensures)

@@ -12,19 +12,22 @@ use Rattle.held.proofs.copied.slots.Statement.{statement}
 use Rattle.held.proofs.copied.slots.Tie as tie
 
 abbrev Inv-loop : tie.InvT-loop
-Inv-loop ids codes escape-places escape-ids base start slot-labels slot-weak keeps first count hints scale targets₀ labels₀ weak₀ s₀ k₀ targets labels weak s k = (k ≤ count) × Appended ids (tab (copiedSlot (idsOf codes escape-places escape-ids base) start slot-labels slot-weak keeps first) k) s₀ s targets₀ labels₀ weak₀ targets labels weak
+Inv-loop ids codes escape-places escape-ids base start row slot-labels slot-weak keeps first count hints scale targets₀ labels₀ weak₀ s₀ cursor₀ k₀ targets labels weak s cursor k = (k ≤ count) × Appended ids (tab (copiedSlot (idsOf codes escape-places escape-ids base) start slot-labels slot-weak keeps first) k) s₀ s targets₀ labels₀ weak₀ targets labels weak
 
 abbrev μ-loop : tie.MeasureT-loop
-μ-loop ids codes escape-places escape-ids base start slot-labels slot-weak keeps first count hints scale targets₀ labels₀ weak₀ s₀ k₀ targets labels weak s k = count - k
+μ-loop ids codes escape-places escape-ids base start row slot-labels slot-weak keeps first count hints scale targets₀ labels₀ weak₀ s₀ cursor₀ k₀ targets labels weak s cursor k = count - k
 
 loop-holds : tie.Need-loop-holds Inv-loop μ-loop
 loop-holds c = (search needs, tab-none _)
 
+id-from-requires : tie.Need-id-from-requires Inv-loop μ-loop
+id-from-requires c κs = c .before .before .before .before .before .before .before .before .before .before .before .before .pre .0
+
 append-slot-requires : tie.Need-append-slot-requires Inv-loop μ-loop
 append-slot-requires c κs =
     let a = c .before .before .before .before .before .before .before .before .before .before .before .before .before .before .before .before .args in
-    let e = copied-slot (idsOf (a .codes .now) (a .escape-places .now) (a .escape-ids .now) (a .base)) (a .start) (c .before .before .before .before .before .loop .k) (c .before .before .before .id-held .ensures) (a .slot-labels .now) (a .slot-weak .now) (a .keeps) (a .first) in
-    (search needs, tab-room (copiedSlot (idsOf (a .codes .now) (a .escape-places .now) (a .escape-ids .now) (a .base)) (a .start) (a .slot-labels .now) (a .slot-weak .now) (a .keeps) (a .first)) (c .before .before .before .before .before .loop .k) (c .before .before .before .before .before .loop .inv .1) e (a .count) (c .before .before .before .before .loop-test .taken) (c .before .before .before .before .before .before .before .before .before .before .before .before .before .before .before .before .pre .1))
+    let e = copied-slot (idsOf (a .codes .now) (a .escape-places .now) (a .escape-ids .now) (a .base)) (a .start) (c .before .before .before .before .before .loop .k) (c .before .before .before .id-from .ensures) (a .slot-labels .now) (a .slot-weak .now) (a .keeps) (a .first) in
+    ((omega (arith, c .before .before .before .before .before .before .before .before .before .before .before .before .before .before .before .before .pre .1 .0 .0, c .before .before .before .before .loop-test .taken), omega (arith, c .before .before .before .before .before .before .before .before .before .before .before .before .before .before .before .before .pre .1 .0 .1, c .before .before .before .before .loop-test .taken)), tab-room (copiedSlot (idsOf (a .codes .now) (a .escape-places .now) (a .escape-ids .now) (a .base)) (a .start) (a .slot-labels .now) (a .slot-weak .now) (a .keeps) (a .first)) (c .before .before .before .before .before .loop .k) (c .before .before .before .before .before .loop .inv .1) e (a .count) (c .before .before .before .before .loop-test .taken) (c .before .before .before .before .before .before .before .before .before .before .before .before .before .before .before .before .pre .1 .1))
 
 add-k : tie.Need-add-k Inv-loop μ-loop
 add-k c = omega (arith, c .before .before .before .before .before .before .before .before .before .before .before .loop-test .taken, c .before .before .before .before .before .before .before .before .before .before .before .before .before .before .before .before .before .before .before .before .before .before .before .fits .count)
@@ -32,7 +35,7 @@ add-k c = omega (arith, c .before .before .before .before .before .before .befor
 loop-again : tie.Need-loop-again Inv-loop μ-loop
 loop-again c =
     let a = c .before .before .before .before .before .before .before .before .before .before .before .before .before .before .before .before .before .before .before .before .before .before .before .args in
-    let e = copied-slot (idsOf (a .codes .now) (a .escape-places .now) (a .escape-ids .now) (a .base)) (a .start) (c .before .before .before .before .before .before .before .before .before .before .before .before .loop .k) (c .before .before .before .before .before .before .before .before .before .before .id-held .ensures) (a .slot-labels .now) (a .slot-weak .now) (a .keeps) (a .first) in
+    let e = copied-slot (idsOf (a .codes .now) (a .escape-places .now) (a .escape-ids .now) (a .base)) (a .start) (c .before .before .before .before .before .before .before .before .before .before .before .before .loop .k) (c .before .before .before .before .before .before .before .before .before .before .id-from .ensures) (a .slot-labels .now) (a .slot-weak .now) (a .keeps) (a .first) in
     (search needs, tab-more (copiedSlot (idsOf (a .codes .now) (a .escape-places .now) (a .escape-ids .now) (a .base)) (a .start) (a .slot-labels .now) (a .slot-weak .now) (a .keeps) (a .first)) (c .before .before .before .before .before .before .before .before .before .before .before .before .loop .k) (c .before .before .before .before .before .before .before .before .before .before .before .before .loop .inv .1) e (c .before .before .before .before .before .before .append-slot .ensures))
 
 same-length : tie.Need-same-length Inv-loop μ-loop
@@ -57,7 +60,7 @@ slots-spec =
     μ-loop
     loop-holds
     (λ c. search needs)
-    (λ c κs. search needs)
+    id-from-requires
     (λ c. search needs)
     append-slot-requires
     add-k
