@@ -35,49 +35,35 @@ pub struct CodedRoom {
     pub ranking: Vec<u64>,
 }
 
-/// Upper bounds on what an input needs, by its columns alone.
-struct Bounds {
-    places: u64,
-    weak: u64,
-    elements: u64,
-}
-
 fn range(starts: &[u32], ends: &[u32], class: usize) -> std::ops::Range<usize> {
     let at = |column: &[u32]| column.get(class).map_or(0, |&at| at as usize);
     at(starts)..at(ends)
 }
 
-impl Bounds {
-    /// Every slot, element and static, and a loader for each class: what the raw route counts, and no less than the copied route's.
-    fn of(input: &Input<'_>) -> Bounds {
-        let Schema { classes, slots, statics, .. } = &input.schema;
-        let per_class: Vec<(u64, u64)> = (0..classes.ids.len())
-            .map(|class| {
-                let slots_of = range(classes.slot_starts, classes.slot_ends, class);
-                let weak = slots.weak.get(slots_of.clone()).map_or(0, |flags| flags.iter().filter(|&&flag| flag != 0).count());
-                (slots_of.len() as u64, weak as u64)
-            })
-            .collect();
-        let mut bounds = Bounds { places: classes.ids.len() as u64, weak: 0, elements: 0 };
-        for class in 0..classes.ids.len() {
-            let statics_of = range(classes.static_starts, classes.static_ends, class);
-            bounds.places += statics.types.get(statics_of).map_or(0, |types| types.len() as u64);
-        }
-        let objects = &input.objects;
-        for ((&kind, &class), &length) in objects.kinds.iter().zip(objects.classes).zip(objects.lengths) {
-            match kind {
-                0 => {
-                    let (slots, weak) = per_class.get(class as usize).copied().unwrap_or((0, 0));
-                    bounds.places += slots;
-                    bounds.weak += weak;
-                }
-                1 => bounds.elements += u64::from(length),
-                _ => {}
-            }
-        }
-        bounds.places += bounds.elements;
-        bounds
+/// Every slot, element and static, and a loader for each class: what the raw route counts, and no less than the copied route's.
+fn most_places(input: &Input<'_>) -> u64 {
+    let (classes, objects) = (&input.schema.classes, &input.objects);
+    let slots: Vec<u64> = (0..classes.ids.len()).map(|class| range(classes.slot_starts, classes.slot_ends, class).len() as u64).collect();
+    let statics = (0..classes.ids.len()).map(|class| range(classes.static_starts, classes.static_ends, class).len() as u64);
+    let parts = objects.kinds.iter().zip(objects.classes).zip(objects.lengths).map(|((&kind, &class), &length)| match kind {
+        0 => slots.get(class as usize).copied().unwrap_or(0),
+        1 => u64::from(length),
+        _ => 0,
+    });
+    classes.ids.len() as u64 + statics.sum::<u64>() + parts.sum::<u64>()
+}
+
+/// The weak slots of all instances: no pair comes from another slot.
+fn most_weak(input: &Input<'_>) -> u64 {
+    if input.policy.soft && input.policy.weak {
+        return 0;
     }
+    let Schema { classes, slots, .. } = &input.schema;
+    let weak: Vec<u64> = (0..classes.ids.len())
+        .map(|class| slots.weak.get(range(classes.slot_starts, classes.slot_ends, class)).map_or(0, |flags| flags.iter().map(|&flag| u64::from(flag != 0)).sum()))
+        .collect();
+    let of = |(&kind, &class): (&u8, &u32)| if kind == 0 { weak.get(class as usize).copied().unwrap_or(0) } else { 0 };
+    input.objects.kinds.iter().zip(input.objects.classes).map(of).sum()
 }
 
 /// How many ids the references can hold, unless the parts of objects share them. The copied route has no place for a null.
@@ -92,11 +78,10 @@ impl Room {
     /// Room for an input. The first try trusts that objects share no ids and that bodies hold their slots, which keeps a damaged length from
     /// asking for memory; a second, after ROOM, which only a sound input is answered, has all that it can need.
     pub fn for_input(input: &Input<'_>, second: bool) -> Room {
-        let bounds = Bounds::of(input);
-        let usual = held(&input.references) + input.schema.statics.types.len() as u64 + input.schema.classes.ids.len() as u64;
-        let cut = |bound: u64| if second { bound } else { bound.min(usual) };
-        let places = cut(bounds.places).min(PLACES) as usize;
-        let weak = if input.policy.soft && input.policy.weak { 0 } else { cut(bounds.weak) as usize };
+        let held = held(&input.references) + input.schema.statics.types.len() as u64 + input.schema.classes.ids.len() as u64;
+        let most = if second { most_places(input) } else { held };
+        let places = most.min(PLACES) as usize;
+        let weak = most_weak(input).min(most) as usize;
         Room {
             targets: vec![0; places],
             labels: vec![0; places],
@@ -104,7 +89,7 @@ impl Room {
             weak_to: vec![0; weak],
             roots: vec![0; input.roots.len()],
             working: vec![0; input.objects.ids.len() + 1],
-            coded: CodedRoom::new(input.objects.ids.len() + 1, places, bounds.elements, input.schema.names),
+            coded: CodedRoom::new(input.objects.ids.len() + 1, places, most, input.schema.names),
         }
     }
 }

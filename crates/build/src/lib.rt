@@ -20,12 +20,6 @@ fn up_to(more: usize, len: usize) -> usize
     if more < len { more + 1 } else { len }
 }
 
-fn least(a: usize, b: usize) -> usize
-    ensures { λ r. ⌜ (r ≤ b) × (r ≡ min a b) ⌝ }
-{
-    if a < b { a } else { b }
-}
-
 // The offsets of all objects and the labels of all edges stand at the fronts of the work columns.
 fn code_used(
     v: Built,
@@ -57,7 +51,7 @@ fn code_used(
     ensures { λ r. ⌜ Coding (naming (now («slot_starts» .entry)) (now («slot_ends» .entry)) (now («static_starts» .entry)) (now («static_ends» .entry)) (now («slot_labels» .entry)) (now («static_names» .entry)) (now («static_types» .entry))) classes names (offsetsUsed objects (now (working .entry))) (labelsUsed (builtSays v) (now (labels .entry))) (builtSays v) (lentOf (length (now (bases .entry))) (length (now (short .entry))) (length (now («long_at» .entry))) (length (now («long_value» .entry))) (length (now (fields .entry))) (length (now (table .entry))) (length (now («escape_at» .entry))) (length (now («escape_label» .entry))) (length (now («edge_codes» .entry))) (length (now (counting .entry))) (length (now (ranking .entry)))) (builtSays r) (codedOf (now (bases .exit)) (now (short .exit)) (now («long_at» .exit)) (now («long_value» .exit)) (now (fields .exit)) (now (table .exit)) (now («escape_at» .exit)) (now («escape_label» .exit)) (now («edge_codes» .exit)) (now (counting .exit)) (now (ranking .exit))) ⌝ }
 {
     let n = up_to(objects, working.len());
-    let m = least(stages::edges_kept(v), labels.len());
+    let m = stages::least(stages::edges_kept(v), labels.len());
     coding::code_parts(
         v,
         classes,
@@ -159,8 +153,8 @@ fn finish(
     r
 }
 
-// The graph of an input by the copied route, in the columns lent, with its account; or a refusal, and all of them zero.
-pub fn build_copied(
+// A build by the copied route, the hints of the ids standing in the column for short offsets.
+fn hinted_copied(
     ids: &[u64],
     kinds: &[u8],
     classes: &[u32],
@@ -236,7 +230,222 @@ pub fn build_copied(
         roots,
         policy,
         bases.len(),
-        short.len(),
+        short,
+        targets,
+        labels,
+        weak_from,
+        weak_to,
+        roots_out,
+        working,
+        account,
+    );
+    finish(
+        v,
+        ids.len(),
+        class_ids.len(),
+        slot_starts,
+        slot_ends,
+        static_starts,
+        static_ends,
+        slot_labels,
+        static_names,
+        static_types,
+        names,
+        targets,
+        labels,
+        weak_from,
+        weak_to,
+        roots_out,
+        working,
+        account,
+        bases,
+        short,
+        long_at,
+        long_value,
+        fields,
+        table,
+        escape_at,
+        escape_label,
+        edge_codes,
+        counting,
+        ranking,
+    )
+}
+
+// The graph of an input by the copied route, in the columns lent, with its account; or a refusal, and all of them zero.
+pub fn build_copied(
+    ids: &[u64],
+    kinds: &[u8],
+    classes: &[u32],
+    lengths: &[u32],
+    class_ids: &[u64],
+    loaders: &[u64],
+    dumped: &[u8],
+    class_kinds: &[u8],
+    slot_starts: &[u32],
+    slot_ends: &[u32],
+    static_starts: &[u32],
+    static_ends: &[u32],
+    slot_offsets: &[u32],
+    slot_labels: &[u32],
+    slot_weak: &[u8],
+    static_names: &[u32],
+    static_types: &[u8],
+    static_values: &[u64],
+    names: usize,
+    codes: &[u32],
+    escape_places: &[u64],
+    escape_ids: &[u64],
+    base: u64,
+    starts: &[u32],
+    roots: &[u32],
+    policy: ReferencePolicy,
+    targets: &mut [u32],
+    labels: &mut [u32],
+    weak_from: &mut [u32],
+    weak_to: &mut [u32],
+    roots_out: &mut [u32],
+    working: &mut [u64],
+    account: &mut [[u64; 3]; 4],
+    bases: &mut [u64],
+    short: &mut [u16],
+    long_at: &mut [u32],
+    long_value: &mut [u64],
+    fields: &mut [u32],
+    table: &mut [u16],
+    escape_at: &mut [u64],
+    escape_label: &mut [u32],
+    edge_codes: &mut [u16],
+    counting: &mut [u64],
+    ranking: &mut [u64],
+) -> Built
+    ensures { λ r. ⌜ leftOf (builtSays r) (now (targets .exit)) (now (labels .exit)) (now («weak_from» .exit)) (now («weak_to» .exit)) (now («roots_out» .exit)) (now (working .exit)) (codedOf (now (bases .exit)) (now (short .exit)) (now («long_at» .exit)) (now («long_value» .exit)) (now (fields .exit)) (now (table .exit)) (now («escape_at» .exit)) (now («escape_label» .exit)) (now («edge_codes» .exit)) (now (counting .exit)) (now (ranking .exit))) (now (account .exit)) ≡ buildLeft (copiedInput (now (ids .entry)) (now (kinds .entry)) (now (classes .entry)) (now (lengths .entry)) (now («class_ids» .entry)) (now (loaders .entry)) (now (dumped .entry)) (now («class_kinds» .entry)) (now («slot_starts» .entry)) (now («slot_ends» .entry)) (now («static_starts» .entry)) (now («static_ends» .entry)) (now («slot_offsets» .entry)) (now («slot_labels» .entry)) (now («slot_weak» .entry)) (now («static_names» .entry)) (now («static_types» .entry)) (now («static_values» .entry)) names (now (codes .entry)) (now («escape_places» .entry)) (now («escape_ids» .entry)) base (now (starts .entry)) (now (roots .entry)) policy) (roomsOf (length (now (targets .entry))) (length (now (labels .entry))) (length (now («weak_from» .entry))) (length (now («weak_to» .entry))) (length (now («roots_out» .entry))) (length (now (working .entry))) (lentOf (length (now (bases .entry))) (length (now (short .entry))) (length (now («long_at» .entry))) (length (now («long_value» .entry))) (length (now (fields .entry))) (length (now (table .entry))) (length (now («escape_at» .entry))) (length (now («escape_label» .entry))) (length (now («edge_codes» .entry))) (length (now (counting .entry))) (length (now (ranking .entry))))) ⌝ }
+{
+    lookup::hints::mark(ids, short);
+    hinted_copied(
+        ids,
+        kinds,
+        classes,
+        lengths,
+        class_ids,
+        loaders,
+        dumped,
+        class_kinds,
+        slot_starts,
+        slot_ends,
+        static_starts,
+        static_ends,
+        slot_offsets,
+        slot_labels,
+        slot_weak,
+        static_names,
+        static_types,
+        static_values,
+        names,
+        codes,
+        escape_places,
+        escape_ids,
+        base,
+        starts,
+        roots,
+        policy,
+        targets,
+        labels,
+        weak_from,
+        weak_to,
+        roots_out,
+        working,
+        account,
+        bases,
+        short,
+        long_at,
+        long_value,
+        fields,
+        table,
+        escape_at,
+        escape_label,
+        edge_codes,
+        counting,
+        ranking,
+    )
+}
+
+// A build by the raw route, the hints of the ids standing in the column for short offsets.
+fn hinted_raw(
+    ids: &[u64],
+    kinds: &[u8],
+    classes: &[u32],
+    lengths: &[u32],
+    class_ids: &[u64],
+    loaders: &[u64],
+    dumped: &[u8],
+    class_kinds: &[u8],
+    slot_starts: &[u32],
+    slot_ends: &[u32],
+    static_starts: &[u32],
+    static_ends: &[u32],
+    slot_offsets: &[u32],
+    slot_labels: &[u32],
+    slot_weak: &[u8],
+    static_names: &[u32],
+    static_types: &[u8],
+    static_values: &[u64],
+    names: usize,
+    bytes: &[u8],
+    size: usize,
+    starts: &[u64],
+    bodies: &[u32],
+    roots: &[u32],
+    policy: ReferencePolicy,
+    targets: &mut [u32],
+    labels: &mut [u32],
+    weak_from: &mut [u32],
+    weak_to: &mut [u32],
+    roots_out: &mut [u32],
+    working: &mut [u64],
+    account: &mut [[u64; 3]; 4],
+    bases: &mut [u64],
+    short: &mut [u16],
+    long_at: &mut [u32],
+    long_value: &mut [u64],
+    fields: &mut [u32],
+    table: &mut [u16],
+    escape_at: &mut [u64],
+    escape_label: &mut [u32],
+    edge_codes: &mut [u16],
+    counting: &mut [u64],
+    ranking: &mut [u64],
+) -> Built
+    ensures { λ r. ⌜ leftOf (builtSays r) (now (targets .exit)) (now (labels .exit)) (now («weak_from» .exit)) (now («weak_to» .exit)) (now («roots_out» .exit)) (now (working .exit)) (codedOf (now (bases .exit)) (now (short .exit)) (now («long_at» .exit)) (now («long_value» .exit)) (now (fields .exit)) (now (table .exit)) (now («escape_at» .exit)) (now («escape_label» .exit)) (now («edge_codes» .exit)) (now (counting .exit)) (now (ranking .exit))) (now (account .exit)) ≡ buildLeft (rawInput (now (ids .entry)) (now (kinds .entry)) (now (classes .entry)) (now (lengths .entry)) (now («class_ids» .entry)) (now (loaders .entry)) (now (dumped .entry)) (now («class_kinds» .entry)) (now («slot_starts» .entry)) (now («slot_ends» .entry)) (now («static_starts» .entry)) (now («static_ends» .entry)) (now («slot_offsets» .entry)) (now («slot_labels» .entry)) (now («slot_weak» .entry)) (now («static_names» .entry)) (now («static_types» .entry)) (now («static_values» .entry)) names (now (bytes .entry)) size (now (starts .entry)) (now (bodies .entry)) (now (roots .entry)) policy) (roomsOf (length (now (targets .entry))) (length (now (labels .entry))) (length (now («weak_from» .entry))) (length (now («weak_to» .entry))) (length (now («roots_out» .entry))) (length (now (working .entry))) (lentOf (length (now (bases .entry))) (length (now (short .entry))) (length (now («long_at» .entry))) (length (now («long_value» .entry))) (length (now (fields .entry))) (length (now (table .entry))) (length (now («escape_at» .entry))) (length (now («escape_label» .entry))) (length (now («edge_codes» .entry))) (length (now (counting .entry))) (length (now (ranking .entry))))) ⌝ }
+{
+    let v = laying::lay_raw(
+        ids,
+        kinds,
+        classes,
+        lengths,
+        class_ids,
+        loaders,
+        dumped,
+        class_kinds,
+        slot_starts,
+        slot_ends,
+        static_starts,
+        static_ends,
+        slot_offsets,
+        slot_labels,
+        slot_weak,
+        static_names,
+        static_types,
+        static_values,
+        names,
+        bytes,
+        size,
+        starts,
+        bodies,
+        roots,
+        policy,
+        bases.len(),
+        short,
         targets,
         labels,
         weak_from,
@@ -326,7 +535,8 @@ pub fn build_raw(
 ) -> Built
     ensures { λ r. ⌜ leftOf (builtSays r) (now (targets .exit)) (now (labels .exit)) (now («weak_from» .exit)) (now («weak_to» .exit)) (now («roots_out» .exit)) (now (working .exit)) (codedOf (now (bases .exit)) (now (short .exit)) (now («long_at» .exit)) (now («long_value» .exit)) (now (fields .exit)) (now (table .exit)) (now («escape_at» .exit)) (now («escape_label» .exit)) (now («edge_codes» .exit)) (now (counting .exit)) (now (ranking .exit))) (now (account .exit)) ≡ buildLeft (rawInput (now (ids .entry)) (now (kinds .entry)) (now (classes .entry)) (now (lengths .entry)) (now («class_ids» .entry)) (now (loaders .entry)) (now (dumped .entry)) (now («class_kinds» .entry)) (now («slot_starts» .entry)) (now («slot_ends» .entry)) (now («static_starts» .entry)) (now («static_ends» .entry)) (now («slot_offsets» .entry)) (now («slot_labels» .entry)) (now («slot_weak» .entry)) (now («static_names» .entry)) (now («static_types» .entry)) (now («static_values» .entry)) names (now (bytes .entry)) size (now (starts .entry)) (now (bodies .entry)) (now (roots .entry)) policy) (roomsOf (length (now (targets .entry))) (length (now (labels .entry))) (length (now («weak_from» .entry))) (length (now («weak_to» .entry))) (length (now («roots_out» .entry))) (length (now (working .entry))) (lentOf (length (now (bases .entry))) (length (now (short .entry))) (length (now («long_at» .entry))) (length (now («long_value» .entry))) (length (now (fields .entry))) (length (now (table .entry))) (length (now («escape_at» .entry))) (length (now («escape_label» .entry))) (length (now («edge_codes» .entry))) (length (now (counting .entry))) (length (now (ranking .entry))))) ⌝ }
 {
-    let v = laying::lay_raw(
+    lookup::hints::mark(ids, short);
+    hinted_raw(
         ids,
         kinds,
         classes,
@@ -352,28 +562,6 @@ pub fn build_raw(
         bodies,
         roots,
         policy,
-        bases.len(),
-        short.len(),
-        targets,
-        labels,
-        weak_from,
-        weak_to,
-        roots_out,
-        working,
-        account,
-    );
-    finish(
-        v,
-        ids.len(),
-        class_ids.len(),
-        slot_starts,
-        slot_ends,
-        static_starts,
-        static_ends,
-        slot_labels,
-        static_names,
-        static_types,
-        names,
         targets,
         labels,
         weak_from,

@@ -56,8 +56,16 @@ module _ (x : Input) where
         span = λ o h. places-none (badSpan x) _ o (at-empty 6 _ (e6 .0)) h;
       }
 
-  pub sound : {says : List ℕ} → says ≡ firstOf (faultsBefore x) (0 ∷ 0 ∷ []) → accepts says ≡ true → Sound x
-  sound e a = passed (before-refuse .none-met (0 ∷ 0 ∷ []) (ap accepts (sym e) ∙ a))
+  -- an answer that accepts, with the number that it tells
+  module _ (n : ℕ) {says : List ℕ} (e : says ≡ firstOf (faultsBefore x) (0 ∷ n ∷ [])) (a : accepts says ≡ true) where
+    none-before : faultsBefore x ≡ []
+    none-before = before-refuse .none-met (0 ∷ n ∷ []) (ap accepts (sym e) ∙ a)
+
+    pub sound : Sound x
+    sound = passed none-before
+
+    pub told-before : says ! 1 ≡ n
+    told-before = ap (λ (s : List ℕ). s ! 1) (e ∙ ap (λ (fs : List (List ℕ)). firstOf fs (0 ∷ n ∷ [])) none-before)
 
 module _ (x : Input) (h : Sound x) where
   ids-rise : Rises (x .objects .ids)

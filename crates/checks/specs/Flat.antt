@@ -10,10 +10,12 @@ use Rattle.rules.specs.declared.Checked.{Checked}
 use Rattle.rules.specs.Types.{checkedSays}
 use Rattle.rules.specs.declared.ReferencePolicy.{ReferencePolicy}
 use Rattle.rules.specs.Input.{Schema, Route, Route.copied, Route.raw, Input, objectCount, classCount}
-use Rattle.rules.specs.Verdict.{at, once, badLengths, badLimit, badObject, badDumped, badCopied, badSpan, badRoot, overPlaces, checkSays}
+use Rattle.rules.specs.Places.{placeCount}
+use Rattle.rules.specs.Verdict.{firstOf, at, once, badLengths, badLimit, badObject, badDumped, badCopied, badSpan, badRoot, overPlaces, faults, checkSays}
 use Rattle.input.specs.Found.{marksIf}
 use Rattle.input.specs.Reads.{noPolicy, noRoute}
 use Rattle.input.specs.Lengths.{schemaOf}
+use Rattle.stages.specs.Stages.{Fits}
 
 -- an input of the tables that both routes share
 abbrev tables : List ℕ → List ℕ → List ℕ → List ℕ → Schema → List ℕ → Route → ReferencePolicy → Input
@@ -58,12 +60,22 @@ faultsBefore x =
     at 1 (once (badLengths x))
     ++ (at 2 (once (badLimit x)) ++ (at 3 (places (badObject x) (objectCount x)) ++ (at 4 (places (badDumped x) (classCount (x .schema))) ++ faultsLate x)))
 
--- 8 PLACES: "total places over the limit"; else the places. It is tested where the tests before accept.
-unfoldable pub limitSays : ℕ → List ℕ
-limitSays n = cond (overPlaces n) (8 ∷ 0 ∷ []) (0 ∷ n ∷ [])
+-- 8 PLACES: "total places over the limit"; else the number that is told for them. It is tested where the tests before accept.
+unfoldable pub limitSays : ℕ → ℕ → List ℕ
+limitSays n told = cond (overPlaces n) (8 ∷ 0 ∷ []) (0 ∷ told ∷ [])
 
-unfoldable pub countedSays : List ℕ → ℕ → List ℕ
-countedSays tested n = cond (accepts tested) (limitSays n) tested
+unfoldable pub countedSays : List ℕ → ℕ → ℕ → List ℕ
+countedSays tested n told = cond (accepts tested) (limitSays n told) tested
+
+-- the same, where only so much room matters
+pub record Counted (tested : List ℕ) (room n : ℕ) (says : List ℕ) : Type 0 where
+  pub told : ℕ
+  pub fits : Fits room n told
+  pub answer : says ≡ countedSays tested n told
+
+-- no more than the limit, so that what fits is not over it
+unfoldable pub allowed : ℕ → ℕ
+allowed room = cond (overPlaces room) 268435456 room
 
 -- What a check leaves in a working column of m numbers: the marks of the classes that are found, after a refusal zeros.
 unfoldable pub marksLeft : Input → ℕ → List ℕ
@@ -72,4 +84,11 @@ marksLeft x m = cond (accepts (checkSays x)) (marksIf x (classCount (x .schema))
 -- What `check_copied` and `check_raw` answer, r, and leave in the working column, w, that they are lent with m numbers.
 pub record Judged (x : Input) (m : ℕ) (r : Checked) (w : List ℕ) : Type 0 where
   pub answer : checkedSays r ≡ checkSays x
+  pub marks : w ≡ marksLeft x m
+
+-- What `fit_copied` does: the same refusals, and on acceptance a number that fits the room where the places do.
+pub record Fitted (x : Input) (room m : ℕ) (r : Checked) (w : List ℕ) : Type 0 where
+  pub told : ℕ
+  pub fits : Fits room (placeCount x) told
+  pub answer : checkedSays r ≡ firstOf (faults x) (0 ∷ told ∷ [])
   pub marks : w ≡ marksLeft x m

@@ -2,22 +2,34 @@
 ghost use mathlib.Core.Path.{_≡_};
 ghost use mathlib.Core.Bool.{true, cond};
 ghost use lib.ListN.{length};
+ghost use Rattle.columns.specs.Lists.{_!_};
 ghost use Rattle.columns.specs.Columns.{zeros, accepts};
 ghost use Rattle.rules.specs.Types.{checkedSays};
+ghost use Rattle.input.specs.Copying.{heldCodes};
 ghost use Rattle.places.specs.Placing.{ClassTables, PartTables, CodeTables, rawPlaces, copiedPlaces};
-ghost use Rattle.checks.specs.Flat.{limitSays, countedSays};
+ghost use Rattle.checks.specs.Flat.{limitSays, countedSays, Counted, allowed};
 use rules::Checked;
 use rules::ReferencePolicy;
 use rules::Refusal;
 
 // So many places, if they are not too many.
 fn limited(places: u64) -> Checked
-    ensures { λ r. ⌜ checkedSays r ≡ limitSays places ⌝ }
+    ensures { λ r. ⌜ checkedSays r ≡ limitSays places places ⌝ }
 {
     if 268435456 < places {
         return Checked::Refused(Refusal::Places);
     }
     Checked::Accepted(places as usize)
+}
+
+// So much of a room that what fits in it is not too much.
+fn least_room(room: usize) -> usize
+    ensures { λ r. ⌜ r ≡ allowed room ⌝ }
+{
+    if 268435456 < room {
+        return 268435456;
+    }
+    room
 }
 
 pub(crate) fn accepted(c: Checked) -> bool
@@ -39,9 +51,11 @@ pub(crate) fn settle(keep: bool, working: &mut [u64])
     columns::zero_u64(working, 0);
 }
 
-// The answer of the tests before, or where they accept, that of the places.
+// The answer of the tests before, or where they accept, that of the places, of which no more matters than whether they fit the room. The tests before
+// tell how many codes are not 0.
 pub(crate) fn count_copied(
     tested: Checked,
+    room: usize,
     ids: &[u64],
     kinds: &[u8],
     classes: &[u32],
@@ -61,12 +75,14 @@ pub(crate) fn count_copied(
     starts: &[u32],
     policy: ReferencePolicy,
 ) -> Checked
-    requires { ⌜ (accepts (checkedSays tested) ≡ true → (CodeTables (now kinds) (now classes) (now lengths) (now «class_kinds») (now «slot_starts») (now «slot_ends») (now «slot_weak») (now codes) (now starts)) × (ClassTables (now ids) (now «class_ids») (now loaders) (now dumped) (now «static_starts») (now «static_ends») (now «static_types») (now «static_values»))) ⌝ }
-    ensures { λ r. ⌜ checkedSays r ≡ countedSays (checkedSays tested) (copiedPlaces (now (ids .entry)) (now (kinds .entry)) (now (classes .entry)) (now (lengths .entry)) (now («class_ids» .entry)) (now (loaders .entry)) (now (dumped .entry)) (now («class_kinds» .entry)) (now («slot_starts» .entry)) (now («slot_ends» .entry)) (now («static_starts» .entry)) (now («static_ends» .entry)) (now («slot_weak» .entry)) (now («static_types» .entry)) (now («static_values» .entry)) (now (codes .entry)) (now (starts .entry)) policy) ⌝ }
+    requires { ⌜ (accepts (checkedSays tested) ≡ true → (CodeTables (now kinds) (now classes) (now lengths) (now «class_kinds») (now «slot_starts») (now «slot_ends») (now «slot_weak») (now codes) (now starts)) × (ClassTables (now ids) (now «class_ids») (now loaders) (now dumped) (now «static_starts») (now «static_ends») (now «static_types») (now «static_values»)) × (checkedSays tested ! 1 ≡ heldCodes (now codes))) ⌝ }
+    ensures { λ r. ⌜ Counted (checkedSays tested) room (copiedPlaces (now (ids .entry)) (now (kinds .entry)) (now (classes .entry)) (now (lengths .entry)) (now («class_ids» .entry)) (now (loaders .entry)) (now (dumped .entry)) (now («class_kinds» .entry)) (now («slot_starts» .entry)) (now («slot_ends» .entry)) (now («static_starts» .entry)) (now («static_ends» .entry)) (now («slot_weak» .entry)) (now («static_types» .entry)) (now («static_values» .entry)) (now (codes .entry)) (now (starts .entry)) policy) (checkedSays r) ⌝ }
 {
     match tested {
         Checked::Refused(why) => Checked::Refused(why),
-        Checked::Accepted(_) => limited(places::copied_places(
+        Checked::Accepted(held) => limited(places::fit_places(
+            held,
+            least_room(room),
             ids,
             kinds,
             classes,
@@ -107,7 +123,7 @@ pub(crate) fn count_raw(
     static_values: &[u64],
 ) -> Checked
     requires { ⌜ (accepts (checkedSays tested) ≡ true → (PartTables (now kinds) (now classes) (now lengths) (now «slot_starts») (now «slot_ends»)) × (ClassTables (now ids) (now «class_ids») (now loaders) (now dumped) (now «static_starts») (now «static_ends») (now «static_types») (now «static_values»))) ⌝ }
-    ensures { λ r. ⌜ checkedSays r ≡ countedSays (checkedSays tested) (rawPlaces (now (ids .entry)) (now (kinds .entry)) (now (classes .entry)) (now (lengths .entry)) (now («class_ids» .entry)) (now (loaders .entry)) (now (dumped .entry)) (now («slot_starts» .entry)) (now («slot_ends» .entry)) (now («static_starts» .entry)) (now («static_ends» .entry)) (now («static_types» .entry)) (now («static_values» .entry))) ⌝ }
+    ensures { λ r. ⌜ checkedSays r ≡ countedSays (checkedSays tested) (rawPlaces (now (ids .entry)) (now (kinds .entry)) (now (classes .entry)) (now (lengths .entry)) (now («class_ids» .entry)) (now (loaders .entry)) (now (dumped .entry)) (now («slot_starts» .entry)) (now («slot_ends» .entry)) (now («static_starts» .entry)) (now («static_ends» .entry)) (now («static_types» .entry)) (now («static_values» .entry))) (rawPlaces (now (ids .entry)) (now (kinds .entry)) (now (classes .entry)) (now (lengths .entry)) (now («class_ids» .entry)) (now (loaders .entry)) (now (dumped .entry)) (now («slot_starts» .entry)) (now («slot_ends» .entry)) (now («static_starts» .entry)) (now («static_ends» .entry)) (now («static_types» .entry)) (now («static_values» .entry))) ⌝ }
 {
     match tested {
         Checked::Refused(why) => Checked::Refused(why),

@@ -7,6 +7,7 @@ ghost use Rattle.columns.specs.Columns.{zeros, accepts};
 ghost use Rattle.rules.specs.Types.{checkedSays};
 ghost use Rattle.rules.specs.Verdict.{firstOf};
 ghost use Rattle.input.specs.Reads.{noPolicy};
+ghost use Rattle.input.specs.Copying.{heldCodes};
 ghost use Rattle.input.specs.Found.{marksIf, findColumns};
 ghost use Rattle.checks.specs.Flat.{copiedInput, rawInput, faultsBefore};
 use crate::late;
@@ -16,7 +17,7 @@ use input::objects;
 use rules::Checked;
 use rules::Refusal;
 
-// The checks before the places are counted. Where they accept, the working column holds the marks of the classes.
+// The checks before the places are counted. Where they accept, they tell how many codes are not 0, and the working column holds the marks of the classes.
 pub(crate) fn judge_copied(
     ids: &[u64],
     kinds: &[u8],
@@ -46,7 +47,7 @@ pub(crate) fn judge_copied(
     working: &mut [u64],
 ) -> Checked
     requires { ⌜ now working ≡ zeros (length (now working)) ⌝ }
-    ensures { λ r. ⌜ checkedSays r ≡ firstOf (faultsBefore (copiedInput (now (ids .entry)) (now (kinds .entry)) (now (classes .entry)) (now (lengths .entry)) (now («class_ids» .entry)) (now (loaders .entry)) (now (dumped .entry)) (now («class_kinds» .entry)) (now («slot_starts» .entry)) (now («slot_ends» .entry)) (now («static_starts» .entry)) (now («static_ends» .entry)) (now («slot_offsets» .entry)) (now («slot_labels» .entry)) (now («slot_weak» .entry)) (now («static_names» .entry)) (now («static_types» .entry)) (now («static_values» .entry)) names (now (codes .entry)) (now («escape_places» .entry)) (now («escape_ids» .entry)) base (now (starts .entry)) (now (roots .entry)) noPolicy)) (0 ∷ 0 ∷ []) ⌝ }
+    ensures { λ r. ⌜ checkedSays r ≡ firstOf (faultsBefore (copiedInput (now (ids .entry)) (now (kinds .entry)) (now (classes .entry)) (now (lengths .entry)) (now («class_ids» .entry)) (now (loaders .entry)) (now (dumped .entry)) (now («class_kinds» .entry)) (now («slot_starts» .entry)) (now («slot_ends» .entry)) (now («static_starts» .entry)) (now («static_ends» .entry)) (now («slot_offsets» .entry)) (now («slot_labels» .entry)) (now («slot_weak» .entry)) (now («static_names» .entry)) (now («static_types» .entry)) (now («static_values» .entry)) names (now (codes .entry)) (now («escape_places» .entry)) (now («escape_ids» .entry)) base (now (starts .entry)) (now (roots .entry)) noPolicy)) (0 ∷ heldCodes (now (codes .entry)) ∷ []) ⌝ }
     ensures { λ r. ⌜ (accepts (checkedSays r) ≡ true → now (working .exit) ≡ marksIf (findColumns (now (ids .entry)) (now (kinds .entry)) (now («class_ids» .entry)) (now (dumped .entry))) (length (now («class_ids» .entry))) (length (now (working .entry)))) ⌝ }
 {
     if tables::copied_lengths(

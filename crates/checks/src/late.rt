@@ -5,15 +5,16 @@ ghost use lib.ListN.{length};
 ghost use Prim.Native.Nat.{_≤_};
 ghost use Rattle.rules.specs.Types.{checkedSays};
 ghost use Rattle.rules.specs.Verdict.{firstOf};
+ghost use Rattle.input.specs.Copying.{heldCodes};
 ghost use Rattle.checks.specs.Flat.{lateColumns, lateRaw, faultsLate};
 use input::copied;
-use input::copied::Fault;
+use input::copied::Tested;
 use input::objects;
 use input::spans;
 use rules::Checked;
 use rules::Refusal;
 
-// The checks behind those of the tables: the copied ids, the parts, the roots.
+// The checks behind those of the tables: the copied ids, the parts, the roots. Where they accept, they tell how many codes are not 0.
 pub(crate) fn judge_ids(
     ids: &[u64],
     kinds: &[u8],
@@ -34,11 +35,11 @@ pub(crate) fn judge_ids(
     requires { ⌜ length (now starts) ≡ length (now ids) ⌝ }
     requires { ⌜ length (now «slot_ends») ≡ length (now «slot_starts») ⌝ }
     requires { ⌜ length (now «escape_ids») ≡ length (now «escape_places») ⌝ }
-    ensures { λ r. ⌜ checkedSays r ≡ firstOf (faultsLate (lateColumns (now (ids .entry)) (now (kinds .entry)) (now (classes .entry)) (now (lengths .entry)) (now («slot_starts» .entry)) (now («slot_ends» .entry)) (now (codes .entry)) (now («escape_places» .entry)) (now («escape_ids» .entry)) base (now (starts .entry)) (now (roots .entry)))) (0 ∷ 0 ∷ []) ⌝ }
+    ensures { λ r. ⌜ checkedSays r ≡ firstOf (faultsLate (lateColumns (now (ids .entry)) (now (kinds .entry)) (now (classes .entry)) (now (lengths .entry)) (now («slot_starts» .entry)) (now («slot_ends» .entry)) (now (codes .entry)) (now («escape_places» .entry)) (now («escape_ids» .entry)) base (now (starts .entry)) (now (roots .entry)))) (0 ∷ heldCodes (now (codes .entry)) ∷ []) ⌝ }
 {
     match copied::first_copied(codes, escape_places, escape_ids, base) {
-        Fault::At(p) => Checked::Refused(Refusal::Copied(p)),
-        Fault::Nothing => {
+        Tested::At(p) => Checked::Refused(Refusal::Copied(p)),
+        Tested::Held(n) => {
             let o = spans::first_copied_span(
                 kinds,
                 classes,
@@ -55,7 +56,7 @@ pub(crate) fn judge_ids(
             if i < roots.len() {
                 return Checked::Refused(Refusal::Root(i));
             }
-            Checked::Accepted(0)
+            Checked::Accepted(n)
         }
     }
 }

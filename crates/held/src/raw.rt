@@ -23,8 +23,8 @@ fn spot_of(offset: u32) -> usize
     offset as usize
 }
 
-// The number that the bytes from `at` on write, highest byte first.
-pub fn id_at_bytes(bytes: &[u8], at: usize, size: usize) -> u64
+// The number that `size` bytes from `at` on write, highest byte first, one after another.
+fn id_by_bytes(bytes: &[u8], at: usize, size: usize) -> u64
     requires { ⌜ (at + size ≤ length (now bytes)) × (size ≤ 8) ⌝ }
     ensures { λ r. ⌜ r ≡ bigEndian 0 (part (now (bytes .entry)) at (at + size)) ⌝ }
 {
@@ -35,6 +35,31 @@ pub fn id_at_bytes(bytes: &[u8], at: usize, size: usize) -> u64
         k += 1;
     }
     high
+}
+
+// The number that four bytes from `at` on write: in a straight line, since the compiler makes one load and one swap of it.
+fn word(bytes: &[u8], at: usize) -> u64
+    requires { ⌜ at + 4 ≤ length (now bytes) ⌝ }
+    ensures { λ r. ⌜ (r ≡ bigEndian 0 (part (now (bytes .entry)) at (at + 4))) × (r < 2 ^ 32) ⌝ }
+{
+    wide(bytes[at]) * 16777216
+        + wide(bytes[at + 1]) * 65536
+        + wide(bytes[at + 2]) * 256
+        + wide(bytes[at + 3])
+}
+
+// The number that the bytes from `at` on write, highest byte first. The two sizes that ids have are read without a loop.
+pub fn id_at_bytes(bytes: &[u8], at: usize, size: usize) -> u64
+    requires { ⌜ (at + size ≤ length (now bytes)) × (size ≤ 8) ⌝ }
+    ensures { λ r. ⌜ r ≡ bigEndian 0 (part (now (bytes .entry)) at (at + size)) ⌝ }
+{
+    if size == 8 {
+        return word(bytes, at) * 4294967296 + word(bytes, at + 4);
+    }
+    if size == 4 {
+        return word(bytes, at);
+    }
+    id_by_bytes(bytes, at, size)
 }
 
 // The slots from `first` on of a body that stands from `start` on. "Reading stops at the first slot that ends past the body."
@@ -51,7 +76,7 @@ fn slots(
     keeps: bool,
     first: usize,
     count: usize,
-    hints: &[u32],
+    hints: &[u16],
     scale: u32,
     targets: &mut [u32],
     labels: &mut [u32],
@@ -97,7 +122,7 @@ fn elements(
     size: usize,
     start: usize,
     count: usize,
-    hints: &[u32],
+    hints: &[u16],
     scale: u32,
     targets: &mut [u32],
     labels: &mut [u32],
@@ -136,7 +161,7 @@ pub fn object_slots(
     policy: rules::ReferencePolicy,
     kind: u8,
     class: usize,
-    hints: &[u32],
+    hints: &[u16],
     scale: u32,
     targets: &mut [u32],
     labels: &mut [u32],
@@ -184,7 +209,7 @@ pub fn object_elements(
     start: usize,
     kind: u8,
     count: usize,
-    hints: &[u32],
+    hints: &[u16],
     scale: u32,
     targets: &mut [u32],
     labels: &mut [u32],

@@ -4,3 +4,4 @@ pub mod Walking
 pub mod Parted
 pub mod Even
 pub mod Marks
+pub mod Clean

@@ -27,11 +27,11 @@ pub row-within : (ps : List ℕ) (k p : ℕ) → hasRow ps k p ≡ true → k < 
 unfolding hasRow
 row-within ps k p h = ltb-true _ _ (each-of _ h 0)
 
-row-place : (ps : List ℕ) (k p : ℕ) → hasRow ps k p ≡ true → ps ! k ≡ p
+pub row-place : (ps : List ℕ) (k p : ℕ) → hasRow ps k p ≡ true → ps ! k ≡ p
 unfolding hasRow
 row-place ps k p h = eqb-true _ _ (each-of _ h 1)
 
-row-other : (ps : List ℕ) (k p : ℕ) → hasRow ps k p ≡ false → k < length ps → ps ! k ≡ p → ⊥
+pub row-other : (ps : List ℕ) (k p : ℕ) → hasRow ps k p ≡ false → k < length ps → ps ! k ≡ p → ⊥
 unfolding hasRow
 row-other ps k p h l = eqb-false _ _ (second-fails _ _ h (lt-ltb _ _ l))
 

@@ -1,11 +1,15 @@
 // The check of copied ids: the escapes rise, every code has its id, and every escape its code.
 ghost use mathlib.Core.Path.{_≡_};
+ghost use mathlib.Core.Bool.{not};
 ghost use Prim.Native.Nat.{_+_, _<_};
+ghost use lib.Dec.{eqb};
 ghost use lib.ListN.{length, take};
 ghost use Rattle.columns.specs.Lists.{firstPlace, one};
 ghost use Rattle.columns.specs.Ranks.{Rises};
+ghost use Rattle.index.specs.Copied.{ESCAPED};
 ghost use Rattle.rules.specs.Verdict.{falls, badCopied};
 ghost use Rattle.input.specs.Copying.{faultSays, hasRow, escapeId, codeFault, goodOn, walkFaults, idColumns, copiedColumns};
+ghost use Rattle.input.specs.Copying.{heldCodes, escapedCodes, escapeFault, baseFault, isClean, TestedCodes};
 
 // The place of a fault, if there is one.
 pub enum Fault {
@@ -139,14 +143,132 @@ fn first_walk(codes: &[u32], places: &[u64], ids: &[u64], base: u64) -> Fault
     Fault::Nothing
 }
 
-// The place of the first fault of copied ids: the first escape not rising, else the first bad code, else the first bad escape.
-pub fn first_copied(codes: &[u32], places: &[u64], ids: &[u64], base: u64) -> Fault
+// 1 for a code that is not 0, and for an escape: calls in the place of branches, so that the count has one way on.
+fn one_held(code: u32) -> usize
+    ensures { λ r. ⌜ r ≡ one (not (eqb code 0)) ⌝ }
+{
+    if code == 0 {
+        return 0;
+    }
+    1
+}
+
+fn one_escaped(code: u32) -> usize
+    ensures { λ r. ⌜ r ≡ one (eqb code ESCAPED) ⌝ }
+{
+    if code == 4294967295 {
+        return 1;
+    }
+    0
+}
+
+// How many codes are not 0, and how many are escapes.
+struct Totals {
+    held: usize,
+    escaped: usize,
+}
+
+fn count_codes(codes: &[u32]) -> Totals
+    ensures { λ r. ⌜ r .held ≡ heldCodes (now (codes .entry)) ⌝ }
+    ensures { λ r. ⌜ r .escaped ≡ escapedCodes (now (codes .entry)) ⌝ }
+{
+    let mut held = 0;
+    let mut escaped = 0;
+    let mut i = 0;
+    while i < codes.len() {
+        held += one_held(codes[i]);
+        escaped += one_escaped(codes[i]);
+        i += 1;
+    }
+    Totals { held, escaped }
+}
+
+// Whether escape k has no code or no id.
+fn escape_fault(codes: &[u32], places: &[u64], ids: &[u64], k: usize) -> bool
+    requires { ⌜ k < length (now places) ⌝ }
     requires { ⌜ length (now ids) ≡ length (now places) ⌝ }
-    ensures { λ r. ⌜ faultSays r ≡ take 1 (badCopied (copiedColumns (now (codes .entry)) (now (places .entry)) (now (ids .entry)) base)) ⌝ }
+    ensures { λ r. ⌜ r ≡ escapeFault (now (codes .entry)) (now (places .entry)) (now (ids .entry)) k ⌝ }
+{
+    let p = places[k];
+    if codes.len() as u64 <= p {
+        return true;
+    }
+    if codes[p as usize] != 4294967295 {
+        return true;
+    }
+    if ids[k] == 0 {
+        return true;
+    }
+    false
+}
+
+// The first escape that has no code or no id, or the number of escapes.
+fn first_escape(codes: &[u32], places: &[u64], ids: &[u64]) -> usize
+    requires { ⌜ length (now ids) ≡ length (now places) ⌝ }
+    ensures { λ r. ⌜ r ≡ firstPlace (escapeFault (now (codes .entry)) (now (places .entry)) (now (ids .entry))) (length (now (places .entry))) ⌝ }
+{
+    let mut k = 0;
+    while k < places.len() {
+        if escape_fault(codes, places, ids, k) {
+            return k;
+        }
+        k += 1;
+    }
+    k
+}
+
+// Whether a code can lead to 0 or past 64 bits: the highest that is no escape leads 8 * 4294967293 on.
+fn base_fault(base: u64) -> bool
+    ensures { λ r. ⌜ r ≡ baseFault base ⌝ }
+{
+    if base == 0 {
+        return true;
+    }
+    if 18446744073709551615 - base < 34359738344 {
+        return true;
+    }
+    false
+}
+
+// Whether there is no fault, by a test that is quick and does not look where one is: where it fails, there may be none.
+fn is_clean(codes: &[u32], places: &[u64], ids: &[u64], base: u64, escaped: usize) -> bool
+    requires { ⌜ length (now ids) ≡ length (now places) ⌝ }
+    ensures { λ r. ⌜ r ≡ isClean (idColumns (now (codes .entry)) (now (places .entry)) (now (ids .entry)) base) escaped ⌝ }
+{
+    if escaped != places.len() {
+        return false;
+    }
+    if base_fault(base) {
+        return false;
+    }
+    if first_escape(codes, places, ids) < places.len() {
+        return false;
+    }
+    true
+}
+
+// The place of the first fault, or where there is none, how many codes are not 0.
+pub enum Tested {
+    At(usize),
+    Held(usize),
+}
+
+// The place of the first fault of copied ids: the first escape not rising, else the first bad code, else the first bad escape.
+// The walk along both is slow, and is left out where the quick test shows that it would find nothing.
+pub fn first_copied(codes: &[u32], places: &[u64], ids: &[u64], base: u64) -> Tested
+    requires { ⌜ length (now ids) ≡ length (now places) ⌝ }
+    ensures { λ r. ⌜ TestedCodes (badCopied (copiedColumns (now (codes .entry)) (now (places .entry)) (now (ids .entry)) base)) (now (codes .entry)) r ⌝ }
 {
     let fall = first_fall(places);
     if fall < places.len() {
-        return Fault::At(fall);
+        return Tested::At(fall);
     }
-    first_walk(codes, places, ids, base)
+    let n = count_codes(codes);
+    if is_clean(codes, places, ids, base, n.escaped) {
+        return Tested::Held(n.held);
+    }
+    match first_walk(codes, places, ids, base) {
+        Fault::At(p) => Tested::At(p),
+        Fault::Nothing => Tested::Held(n.held),
+    }
 }

@@ -70,6 +70,7 @@ module _ (x : Input) (ok : accepts (checkSays x) ≡ true) where
       → CopiedAsked (x .objects .ids) (x .objects .kinds) (x .objects .classes) (c .starts) (x .schema .classes .kinds) (x .schema .classes .slotStart) (x .schema .classes .slotEnd) (length (x .schema .slots .weak))
   copied-asked c e f = record {
     objects = objects-in (c .starts) (copied-even x h c e .1);
+    even = omega (arith, objects-even x h .0);
     few = slots-all x h;
     slots = λ o l. slots-weak (subst (λ (t : Route). PartIn x t o) e (part-of (subst CodesFit (sym e) f) o l) .slots);
   }
@@ -80,6 +81,7 @@ module _ (x : Input) (ok : accepts (checkSays x) ≡ true) where
       let part : (o : ℕ) → o < objectCount x → PartIn x (raw r) o = λ o l. subst (λ (t : Route). PartIn x t o) e (part-of (subst CodesFit (sym e) tt) o l) in
       record {
         objects = objects-in (r .starts) (raw-even x h r e .0);
+        even = omega (arith, objects-even x h .0);
         bodies-long = omega (arith, raw-even x h r e .1);
         few = slots-all x h;
         slots = λ o l. rw (part o l .offsets) (part o l .slots);

@@ -1,9 +1,10 @@
 -- How the stages of the first half come together. Assumes nothing.
-use Prim.Native.Nat.{ℕ, zero, suc, _+_, _^_, _≤_, _<_}
+use Prim.Native.Nat.{ℕ, zero, suc, _+_, _^_, _≤_, _<_, min}
 use native.Mathlib.Numerals.{add-one}
 use native.Mathlib.Omega.{arith}
 use mathlib.Core.Path.{_≡_, refl, sym, ap, _∙_}
 use mathlib.Core.Bool.{Bool, true, false, cond, true≢false}
+use mathlib.Core.Logic.{inl, inr}
 use mathlib.Core.List.{List, [], _∷_}
 use lib.Dec.{ltb}
 use lib.ListN.{length, take, drop}
@@ -21,16 +22,17 @@ use Rattle.rules.specs.Edges.{graph, distinctRoots}
 use Rattle.rules.specs.Account.{noAccount}
 use Rattle.rules.specs.Places.{placeCount}
 use Rattle.rules.specs.Needs.{needWeak, needRoots}
-use Rattle.rules.specs.Verdict.{checkSays, at}
+use Rattle.rules.specs.Verdict.{firstOf, faults, checkSays, at}
 use Rattle.rules.proofs.Types.{refusal-refuses}
 use Rattle.rules.proofs.Acceptance.{check-passed, faults-refuse}
 use Rattle.input.specs.Found.{marks, marksIf, markTo, markAt}
-use Rattle.checks.specs.Flat.{Judged, marksLeft}
+use Rattle.checks.specs.Flat.{Judged, Fitted, marksLeft}
 use Rattle.needs.specs.Roots.{Collected, ClassMarks, Below}
 use Rattle.graph.specs.Object.{marked}
 use Rattle.walk.specs.Stage.{Handed, Edged, edgesSaid, withPass}
 use Rattle.walk.proofs.Accepted.{marks-tell}
-use Rattle.stages.specs.Stages.{Early, early, shortEarly, roomSays, plain, edgesSays, edgeSays, Begins, Laid}
+use Rattle.stages.specs.Stages.{Early, early, shortEarly, roomSays, plain, edgesSays, edgeSays, Fits, Begins, Laid}
+use Rattle.stages.proofs.Fitting.{fits-need}
 use Rattle.stages.proofs.Enough.{Enough, enough, room-accepts}
 use Rattle.stages.proofs.Compose.{edge-said}
 use Rattle.laying.specs.Laying.{Laying}
@@ -80,9 +82,33 @@ room-done : (c : List ℕ) (w n o : ℕ) (e : Early) → accepts c ≡ true → 
 unfolding roomSays at
 room-done c w n o e ok none = rw (ok, none)
 
-places-told : (x : Input) (c : List ℕ) → c ≡ checkSays x → accepts c ≡ true → c ! 1 ≡ placeCount x
-unfolding checkSays
-places-told x c e ok = ap (λ (z : List ℕ). z ! 1) e ∙ rw (faults-refuse x .none-met (0 ∷ placeCount x ∷ []) (ap accepts (sym e) ∙ ok))
+-- What the checks hand on: their answer with a number that fits where the places do, and the marks.
+pub record Tested (x : Input) (room m p : ℕ) (c : Checked) (w : List ℕ) : Type 0 where
+  pub answer : checkedSays c ≡ firstOf (faults x) (0 ∷ p ∷ [])
+  pub fits : accepts (checkedSays c) ≡ true → Fits room (placeCount x) p
+  pub marks : w ≡ marksLeft x m
+
+-- A check that counts the places tells just them.
+pub judged : {x : Input} (room : ℕ) {m : ℕ} {c : Checked} {w : List ℕ} → Judged x m c w → Tested x room m (placeCount x) c w
+unfolding checkSays Fits
+judged room j = record { answer = j .answer; fits = λ ok. inl refl; marks = j .marks }
+
+pub fitted : {x : Input} {room m : ℕ} (a b : ℕ) {c : Checked} {w : List ℕ} (f : Fitted x room m c w) → room ≡ min a b → Tested x (min a b) m (f .told) c w
+fitted {x} a b f e = record { answer = f .answer; fits = λ ok. rw (← e) (f .fits); marks = f .marks }
+
+-- The most that there can be, where it has room.
+pub fits-most : (most : ℕ → ℕ) (a b : ℕ) {need r room m n : ℕ} → n ≡ m → need ≤ most m → r ≡ most n → room ≡ min a b → r ≤ room → Fits (min a b) need r
+unfolding Fits
+fits-most most a b even bound is least h = inr (omega (arith, bound, is, ap most even), omega arith)
+
+-- what is told where nothing is refused
+told-places : (x : Input) (p : ℕ) (c : List ℕ) → c ≡ firstOf (faults x) (0 ∷ p ∷ []) → accepts c ≡ true → c ! 1 ≡ p
+told-places x p c e ok = ap (λ (z : List ℕ). z ! 1) e ∙ rw (faults-refuse x .none-met (0 ∷ p ∷ []) (ap accepts (sym e) ∙ ok))
+
+-- acceptance does not depend on the number that is told
+pub told-accepts : (x : Input) (p : ℕ) (c : List ℕ) → c ≡ firstOf (faults x) (0 ∷ p ∷ []) → accepts c ≡ true → accepts (checkSays x) ≡ true
+unfolding checkSays accepts
+told-accepts x p c e ok = rw (faults-refuse x .none-met (0 ∷ p ∷ []) (ap accepts (sym e) ∙ ok))
 
 take-over : (xs d : List ℕ) → take (length xs) (over xs d) ≡ xs
 unfolding over
@@ -90,8 +116,9 @@ take-over xs d = take-at xs (drop (length xs) d) (length xs) refl
 
 -- The first half, from what each stage says.
 module _
-    (x : Input) (b s : ℕ) {c : Checked} (v : Built) (w n : ℕ) (ts₀ ls₀ fs₀ ws₀ rs₀ wk₀ : List ℕ) {wk₁ : List ℕ} (wk₂ rs : List ℕ) (j : Judged x (length wk₀) c wk₁)
-    (weak : accepts (checkedSays c) ≡ true → w ≡ needWeak x) (rooted : accepts (checkedSays c) ≡ true → Collected (x .roots) (objectCount x) wk₁ rs₀ n wk₂ rs)
+    (x : Input) (b s : ℕ) {c : Checked} (v : Built) (p w n : ℕ) (ts₀ ls₀ fs₀ ws₀ rs₀ wk₀ : List ℕ) {wk₁ : List ℕ} (wk₂ rs : List ℕ)
+    (j : Tested x (min (length ts₀) (length ls₀)) (length wk₀) p c wk₁)
+    (weak : accepts (checkedSays c) ≡ true → Fits (min (length fs₀) (length ws₀)) (needWeak x) w) (rooted : accepts (checkedSays c) ≡ true → Collected (x .roots) (objectCount x) wk₁ rs₀ n wk₂ rs)
     (kn : length wk₂ ≡ length wk₀) (rn : length rs ≡ length rs₀)
     (rooms : builtSays v ≡ roomSays (checkedSays c) w n (objectCount x + 1) (early (length ts₀) (length ls₀) (length fs₀) (length ws₀) (length rs) b s (length wk₂)))
   where
@@ -109,22 +136,22 @@ module _
     roots-are ok = rooted ok .need
 
     accepted-input : accepts says ≡ true → accepts (checkSays x) ≡ true
-    accepted-input ok = ap accepts (sym (j .answer)) ∙ ok
+    accepted-input ok = told-accepts x p says (j .answer) ok
 
     -- what the pass is handed
     pub handed : {a₁ : List (List ℕ)} → a₁ ≡ noAccount → accepts (builtSays v) ≡ true → Handed x (length ts₀) (length ls₀) (length fs₀) (length ws₀) wk₂ a₁
     handed none h =
         let ok = passed h .0 in
         let room = enough (says ! 1) w n (objectCount x + 1) e (passed h .1) in
-        let is = places-told x says (j .answer) ok in
+        let is = told-places x p says (j .answer) ok in
         let long : objectCount x < length wk₀ = omega (arith, room .working, kn) in
         let left : wk₂ ≡ marksLeft x (length wk₀) = rooted ok .kept ∙ j .marks in
         record {
           accepted = accepted-input ok;
-          targets = rw (← is) (room .targets);
-          labels = rw (← is) (room .labels);
-          objects = rw (← weak ok) (room .weak-from);
-          weaks = rw (← weak ok) (room .weak-to);
+          targets = fits-need _ (placeCount x) p (length ts₀) (j .fits ok) (omega arith) (rw is at room .targets);
+          labels = fits-need _ (placeCount x) p (length ls₀) (j .fits ok) (omega arith) (rw is at room .labels);
+          objects = fits-need _ (needWeak x) w (length fs₀) (weak ok) (omega arith) (room .weak-from);
+          weaks = fits-need _ (needWeak x) w (length ws₀) (weak ok) (omega arith) (room .weak-to);
           offsets = omega (arith, room .working);
           front = mark-front x (length wk₀) long (accepted-input ok) left;
           marks = mark-told x (length wk₀) long (accepted-input ok) left;
@@ -163,7 +190,7 @@ module _
 
       pub half : Laying x b s r ts₀ ls₀ fs₀ ws₀ rs₀ wk₀ ts ls fs ws rs wk a
       half = record {
-        answer = edge-said x (early (length ts₀) (length ls₀) (length fs₀) (length ws₀) (length rs₀) b s (length wk₀)) w n (j .answer) weak roots-are (rooms ∙ rw (rn, kn)) pass-answer;
+        answer = edge-said x (early (length ts₀) (length ls₀) (length fs₀) (length ws₀) (length rs₀) b s (length wk₀)) p w n (j .answer) (j .fits) weak roots-are (rooms ∙ rw (rn, kn)) pass-answer;
         laid = record {
           targets = λ h. edged .targets (same-accepts h);
           labels = λ h. ap (take (length (graph x .labels))) (edged .labels (same-accepts h)) ∙ take-over (graph x .labels) ls₀;

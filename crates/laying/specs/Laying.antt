@@ -20,12 +20,14 @@ pub record Laying (x : Input) (b s : ℕ) (r : Built) (ts₀ ls₀ fs₀ ws₀ r
 -- What counting weak pairs asks of the columns, all of which an accepted input has: by the copied route,
 pub record CopiedAsked (ids kinds classes starts classKinds slotStart slotEnd : List ℕ) (weak : ℕ) : Type 0 where
   pub objects : ObjectsIn ids kinds classes starts
+  pub even : length kinds ≡ length ids
   pub few : weak ≤ 268435456
   pub slots : (o : ℕ) → o < length ids → SlotsIn classKinds slotStart slotEnd weak weak (kinds ! o) (classes ! o) (starts ! o)
 
 -- and by the raw route.
 pub record RawAsked (ids kinds classes starts bodies : List ℕ) (bytes size : ℕ) (classKinds slotStart slotEnd : List ℕ) (offsets weak : ℕ) : Type 0 where
   pub objects : ObjectsIn ids kinds classes starts
+  pub even : length kinds ≡ length ids
   pub bodies-long : length ids ≤ length bodies
   pub few : weak ≤ 268435456
   pub slots : (o : ℕ) → o < length ids → SlotsIn classKinds slotStart slotEnd offsets weak (kinds ! o) (classes ! o) 0

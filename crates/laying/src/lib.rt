@@ -5,7 +5,7 @@ use rules::Checked;
 use rules::ReferencePolicy;
 ghost use mathlib.Core.Path.{_≡_};
 ghost use mathlib.Core.Bool.{true};
-ghost use Prim.Native.Nat.{_^_, _≤_};
+ghost use Prim.Native.Nat.{_^_, _≤_, min};
 ghost use lib.ListN.{length};
 ghost use Rattle.columns.specs.Columns.{accepts};
 ghost use Rattle.index.specs.Copied.{idsOf};
@@ -14,6 +14,7 @@ ghost use Rattle.rules.specs.Account.{noAccount};
 ghost use Rattle.needs.specs.Roots.{Below, ClassMarks, Collected};
 ghost use Rattle.pairs.specs.Pairs.{copiedTotal, rawTotal};
 ghost use Rattle.checks.specs.Flat.{copiedInput, rawInput};
+ghost use Rattle.stages.specs.Stages.{Fits};
 ghost use Rattle.laying.specs.Laying.{Laying, CopiedAsked, RawAsked};
 
 fn passed(c: Checked) -> bool
@@ -50,7 +51,7 @@ fn roots_of(
     needs::roots::collect_roots(roots, objects, working, out)
 }
 
-// The need of buffer 2, of an input that the checks accept.
+// The need of buffer 2, of an input that the checks accept; or, where all weak slots have room, their number, and nothing is looked up.
 fn weak_copied(
     c: Checked,
     ids: &[u64],
@@ -66,12 +67,26 @@ fn weak_copied(
     slot_ends: &[u32],
     slot_weak: &[u8],
     policy: ReferencePolicy,
+    weak_from: usize,
+    weak_to: usize,
 ) -> usize
     requires { ⌜ (accepts (checkedSays c) ≡ true → CopiedAsked (now ids) (now kinds) (now classes) (now starts) (now «class_kinds») (now «slot_starts») (now «slot_ends») (length (now «slot_weak»))) ⌝ }
-    ensures { λ r. ⌜ (accepts (checkedSays c) ≡ true → r ≡ copiedTotal (now (ids .entry)) (now (kinds .entry)) (now (classes .entry)) (now (starts .entry)) (idsOf (now (codes .entry)) (now («escape_places» .entry)) (now («escape_ids» .entry)) base) (now («class_kinds» .entry)) (now («slot_starts» .entry)) (now («slot_ends» .entry)) (now («slot_weak» .entry)) policy (length (now (ids .entry)))) ⌝ }
+    ensures { λ r. ⌜ (accepts (checkedSays c) ≡ true → Fits (min «weak_from» «weak_to») (copiedTotal (now (ids .entry)) (now (kinds .entry)) (now (classes .entry)) (now (starts .entry)) (idsOf (now (codes .entry)) (now («escape_places» .entry)) (now («escape_ids» .entry)) base) (now («class_kinds» .entry)) (now («slot_starts» .entry)) (now («slot_ends» .entry)) (now («slot_weak» .entry)) policy (length (now (ids .entry)))) r) ⌝ }
 {
     if !passed(c) {
         return 0;
+    }
+    let most = pairs::most::most_weak(
+        kinds,
+        classes,
+        class_kinds,
+        slot_starts,
+        slot_ends,
+        slot_weak,
+        policy,
+    );
+    if most <= stages::least(weak_from, weak_to) {
+        return most;
     }
     pairs::copied::count_weak_copied(
         ids,
@@ -90,7 +105,7 @@ fn weak_copied(
     )
 }
 
-// The need of buffer 2, of an input that the checks accept.
+// The need of buffer 2, of an input that the checks accept; or, where all weak slots have room, their number, and nothing is looked up.
 fn weak_raw(
     c: Checked,
     ids: &[u64],
@@ -106,12 +121,26 @@ fn weak_raw(
     slot_offsets: &[u32],
     slot_weak: &[u8],
     policy: ReferencePolicy,
+    weak_from: usize,
+    weak_to: usize,
 ) -> usize
     requires { ⌜ (accepts (checkedSays c) ≡ true → RawAsked (now ids) (now kinds) (now classes) (now starts) (now bodies) (length (now bytes)) size (now «class_kinds») (now «slot_starts») (now «slot_ends») (length (now «slot_offsets»)) (length (now «slot_weak»))) ⌝ }
-    ensures { λ r. ⌜ (accepts (checkedSays c) ≡ true → r ≡ rawTotal (now (ids .entry)) (now (kinds .entry)) (now (classes .entry)) (now (starts .entry)) (now (bodies .entry)) (now (bytes .entry)) size (now («class_kinds» .entry)) (now («slot_starts» .entry)) (now («slot_ends» .entry)) (now («slot_offsets» .entry)) (now («slot_weak» .entry)) policy (length (now (ids .entry)))) ⌝ }
+    ensures { λ r. ⌜ (accepts (checkedSays c) ≡ true → Fits (min «weak_from» «weak_to») (rawTotal (now (ids .entry)) (now (kinds .entry)) (now (classes .entry)) (now (starts .entry)) (now (bodies .entry)) (now (bytes .entry)) size (now («class_kinds» .entry)) (now («slot_starts» .entry)) (now («slot_ends» .entry)) (now («slot_offsets» .entry)) (now («slot_weak» .entry)) policy (length (now (ids .entry)))) r) ⌝ }
 {
     if !passed(c) {
         return 0;
+    }
+    let most = pairs::most::most_weak(
+        kinds,
+        classes,
+        class_kinds,
+        slot_starts,
+        slot_ends,
+        slot_weak,
+        policy,
+    );
+    if most <= stages::least(weak_from, weak_to) {
+        return most;
     }
     pairs::raw::count_weak_raw(
         ids,
@@ -130,7 +159,7 @@ fn weak_raw(
     )
 }
 
-// By the copied route; `bases` and `short` are the lengths lent for these columns, which ROOM 4 tests.
+// By the copied route. `bases` is the length lent for that column, which ROOM 4 tests; `short` has the hints of the ids.
 pub fn lay_copied(
     ids: &[u64],
     kinds: &[u8],
@@ -159,7 +188,7 @@ pub fn lay_copied(
     roots: &[u32],
     policy: ReferencePolicy,
     bases: usize,
-    short: usize,
+    short: &[u16],
     targets: &mut [u32],
     labels: &mut [u32],
     weak_from: &mut [u32],
@@ -168,9 +197,9 @@ pub fn lay_copied(
     working: &mut [u64],
     account: &mut [[u64; 3]; 4],
 ) -> Built
-    ensures { λ r. ⌜ Laying (copiedInput (now (ids .entry)) (now (kinds .entry)) (now (classes .entry)) (now (lengths .entry)) (now («class_ids» .entry)) (now (loaders .entry)) (now (dumped .entry)) (now («class_kinds» .entry)) (now («slot_starts» .entry)) (now («slot_ends» .entry)) (now («static_starts» .entry)) (now («static_ends» .entry)) (now («slot_offsets» .entry)) (now («slot_labels» .entry)) (now («slot_weak» .entry)) (now («static_names» .entry)) (now («static_types» .entry)) (now («static_values» .entry)) names (now (codes .entry)) (now («escape_places» .entry)) (now («escape_ids» .entry)) base (now (starts .entry)) (now (roots .entry)) policy) bases short r (now (targets .entry)) (now (labels .entry)) (now («weak_from» .entry)) (now («weak_to» .entry)) (now («roots_out» .entry)) (now (working .entry)) (now (targets .exit)) (now (labels .exit)) (now («weak_from» .exit)) (now («weak_to» .exit)) (now («roots_out» .exit)) (now (working .exit)) (now (account .exit)) ⌝ }
+    ensures { λ r. ⌜ Laying (copiedInput (now (ids .entry)) (now (kinds .entry)) (now (classes .entry)) (now (lengths .entry)) (now («class_ids» .entry)) (now (loaders .entry)) (now (dumped .entry)) (now («class_kinds» .entry)) (now («slot_starts» .entry)) (now («slot_ends» .entry)) (now («static_starts» .entry)) (now («static_ends» .entry)) (now («slot_offsets» .entry)) (now («slot_labels» .entry)) (now («slot_weak» .entry)) (now («static_names» .entry)) (now («static_types» .entry)) (now («static_values» .entry)) names (now (codes .entry)) (now («escape_places» .entry)) (now («escape_ids» .entry)) base (now (starts .entry)) (now (roots .entry)) policy) bases (length (now (short .entry))) r (now (targets .entry)) (now (labels .entry)) (now («weak_from» .entry)) (now («weak_to» .entry)) (now («roots_out» .entry)) (now (working .entry)) (now (targets .exit)) (now (labels .exit)) (now («weak_from» .exit)) (now («weak_to» .exit)) (now («roots_out» .exit)) (now (working .exit)) (now (account .exit)) ⌝ }
 {
-    let c = checks::check_copied(
+    let c = checks::fit_copied(
         ids,
         kinds,
         classes,
@@ -197,6 +226,7 @@ pub fn lay_copied(
         starts,
         roots,
         policy,
+        stages::least(targets.len(), labels.len()),
         working,
     );
     let w = weak_copied(
@@ -214,6 +244,8 @@ pub fn lay_copied(
         slot_ends,
         slot_weak,
         policy,
+        weak_from.len(),
+        weak_to.len(),
     );
     let n = roots_of(c, roots, ids.len(), working, roots_out);
     let v = stages::first_rooms(
@@ -227,7 +259,7 @@ pub fn lay_copied(
         weak_to.len(),
         roots_out.len(),
         bases,
-        short,
+        short.len(),
         working.len(),
     );
     begin(account);
@@ -259,6 +291,7 @@ pub fn lay_copied(
         starts,
         roots,
         policy,
+        short,
         working,
         targets,
         labels,
@@ -268,7 +301,7 @@ pub fn lay_copied(
     )
 }
 
-// By the raw route; `bases` and `short` are the lengths lent for these columns, which ROOM 4 tests.
+// By the raw route, with `bases` and `short` as by the copied one.
 pub fn lay_raw(
     ids: &[u64],
     kinds: &[u8],
@@ -296,7 +329,7 @@ pub fn lay_raw(
     roots: &[u32],
     policy: ReferencePolicy,
     bases: usize,
-    short: usize,
+    short: &[u16],
     targets: &mut [u32],
     labels: &mut [u32],
     weak_from: &mut [u32],
@@ -305,7 +338,7 @@ pub fn lay_raw(
     working: &mut [u64],
     account: &mut [[u64; 3]; 4],
 ) -> Built
-    ensures { λ r. ⌜ Laying (rawInput (now (ids .entry)) (now (kinds .entry)) (now (classes .entry)) (now (lengths .entry)) (now («class_ids» .entry)) (now (loaders .entry)) (now (dumped .entry)) (now («class_kinds» .entry)) (now («slot_starts» .entry)) (now («slot_ends» .entry)) (now («static_starts» .entry)) (now («static_ends» .entry)) (now («slot_offsets» .entry)) (now («slot_labels» .entry)) (now («slot_weak» .entry)) (now («static_names» .entry)) (now («static_types» .entry)) (now («static_values» .entry)) names (now (bytes .entry)) size (now (starts .entry)) (now (bodies .entry)) (now (roots .entry)) policy) bases short r (now (targets .entry)) (now (labels .entry)) (now («weak_from» .entry)) (now («weak_to» .entry)) (now («roots_out» .entry)) (now (working .entry)) (now (targets .exit)) (now (labels .exit)) (now («weak_from» .exit)) (now («weak_to» .exit)) (now («roots_out» .exit)) (now (working .exit)) (now (account .exit)) ⌝ }
+    ensures { λ r. ⌜ Laying (rawInput (now (ids .entry)) (now (kinds .entry)) (now (classes .entry)) (now (lengths .entry)) (now («class_ids» .entry)) (now (loaders .entry)) (now (dumped .entry)) (now («class_kinds» .entry)) (now («slot_starts» .entry)) (now («slot_ends» .entry)) (now («static_starts» .entry)) (now («static_ends» .entry)) (now («slot_offsets» .entry)) (now («slot_labels» .entry)) (now («slot_weak» .entry)) (now («static_names» .entry)) (now («static_types» .entry)) (now («static_values» .entry)) names (now (bytes .entry)) size (now (starts .entry)) (now (bodies .entry)) (now (roots .entry)) policy) bases (length (now (short .entry))) r (now (targets .entry)) (now (labels .entry)) (now («weak_from» .entry)) (now («weak_to» .entry)) (now («roots_out» .entry)) (now (working .entry)) (now (targets .exit)) (now (labels .exit)) (now («weak_from» .exit)) (now («weak_to» .exit)) (now («roots_out» .exit)) (now (working .exit)) (now (account .exit)) ⌝ }
 {
     let c = checks::check_raw(
         ids,
@@ -350,6 +383,8 @@ pub fn lay_raw(
         slot_offsets,
         slot_weak,
         policy,
+        weak_from.len(),
+        weak_to.len(),
     );
     let n = roots_of(c, roots, ids.len(), working, roots_out);
     let v = stages::first_rooms(
@@ -363,7 +398,7 @@ pub fn lay_raw(
         weak_to.len(),
         roots_out.len(),
         bases,
-        short,
+        short.len(),
         working.len(),
     );
     begin(account);
@@ -394,6 +429,7 @@ pub fn lay_raw(
         bodies,
         roots,
         policy,
+        short,
         working,
         targets,
         labels,

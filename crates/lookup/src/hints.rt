@@ -1,12 +1,34 @@
-// Hints: where the search for an id starts. The span of the ids is cut into at most 32,768 buckets of 65,536 steps; a column has the place of each bucket's
-// first id, and inside a bucket the place is guessed by proportion. A search is right from any place, so nothing is promised of a hint.
+// Hints: where the search for an id starts. The span of the ids is cut into buckets of 65,536 steps, a power of two of them; a column of short numbers, lent
+// for something else and idle so long, has in two numbers the place of each bucket's first id, and inside a bucket the place is guessed by proportion. A search
+// is right from any place, so nothing is promised of a hint.
 use super::Found;
 use super::find_sorted;
-ghost use Prim.Native.Nat.{_≤_, _<_};
+ghost use Prim.Native.Nat.{_+_, _*_, _≤_, _<_};
+ghost use lib.ListN.{length};
 ghost use Rattle.lookup.specs.Lookup.{Sought};
 
-// How the distance of the last id from the first is scaled to 31 bits: to the right, or from 64 on to the left.
-pub fn scale(ids: &[u64]) -> u32 {
+fn bits_of(n: u64) -> u32
+    ensures { λ r. ⌜ r ≤ 64 ⌝ }
+{
+    64 - u64::leading_zeros(n)
+}
+
+// To how many bits a distance is scaled: the lower 16 are steps in a bucket, the others the bucket, and the column has a pair for each and one more.
+fn bits_for(room: usize) -> u32
+    ensures { λ r. ⌜ r ≤ 31 ⌝ }
+{
+    if room < 4 {
+        return 16;
+    }
+    let bits = bits_of((room / 2 - 1) as u64);
+    if 16 < bits {
+        return 31;
+    }
+    15 + bits
+}
+
+// How the distance of the last id from the first is scaled to these bits: to the right, or from 64 on to the left.
+pub fn scale(ids: &[u64], room: usize) -> u32 {
     if ids.len() == 0 {
         return 0;
     }
@@ -16,13 +38,12 @@ pub fn scale(ids: &[u64]) -> u32 {
         return 0;
     }
     let bits = bits_of(last - first);
-    if 31 < bits { bits - 31 } else { 95 - bits }
-}
-
-fn bits_of(n: u64) -> u32
-    ensures { λ r. ⌜ r ≤ 64 ⌝ }
-{
-    64 - u64::leading_zeros(n)
+    let most = bits_for(room);
+    if most < bits {
+        bits - most
+    } else {
+        64 + most - bits
+    }
 }
 
 // The step in which an id stands; the first for an id below all.
@@ -39,19 +60,37 @@ fn step_of(id: u64, first: u64, scale: u32) -> usize {
     ((id - first) << (scale - 64)) as usize
 }
 
-fn narrow(place: usize) -> u32 {
-    (place % 4294967296) as u32
+fn write(hints: &mut [u16], at: usize, short: u16) {
+    if at < hints.len() {
+        hints[at] = short;
+    }
+}
+
+// A place is two short numbers.
+fn put(hints: &mut [u16], bucket: usize, place: usize) {
+    if bucket < hints.len() / 2 {
+        write(hints, 2 * bucket, (place % 65536) as u16);
+        write(hints, 2 * bucket + 1, (place / 65536 % 65536) as u16);
+    }
+}
+
+fn joined(low: u16, high: u16) -> u32 {
+    low as u32 + high as u32 * 65536
+}
+
+fn hint(hints: &[u16], bucket: usize) -> u32
+    requires { ⌜ 2 * bucket + 1 < length (now hints) ⌝ }
+{
+    joined(hints[2 * bucket], hints[2 * bucket + 1])
 }
 
 // The hints of a column of ids: from the back, so that the first id of a bucket is what stays.
-pub fn mark(ids: &[u64], scale: u32, hints: &mut [u32]) {
+pub fn mark(ids: &[u64], hints: &mut [u16]) {
+    let scale = scale(ids, hints.len());
     let mut i = ids.len();
     while 0 < i {
         i -= 1;
-        let b = step_of(ids[i], ids[0], scale) / 65536;
-        if b < hints.len() {
-            hints[b] = narrow(i);
-        }
+        put(hints, step_of(ids[i], ids[0], scale) / 65536, i);
     }
 }
 
@@ -99,27 +138,34 @@ fn part_of(step: usize) -> u16 {
     (step % 65536) as u16
 }
 
-fn guess(ids: &[u64], id: u64, hints: &[u32], scale: u32) -> usize {
+fn guess(ids: &[u64], id: u64, hints: &[u16], scale: u32) -> usize {
     if ids.len() == 0 {
         return 0;
     }
-    let step = step_of(id, ids[0], scale);
-    if hints.len() < 2 {
+    if hints.len() < 4 {
         return 0;
     }
-    if hints.len() - 2 < step / 65536 {
+    let step = step_of(id, ids[0], scale);
+    let bucket = step / 65536;
+    if hints.len() / 2 - 2 < bucket {
         return ids.len();
     }
     over_lower(
         ids,
         id,
-        between(hints[step / 65536], hints[step / 65536 + 1], part_of(step)),
+        between(hint(hints, bucket), hint(hints, bucket + 1), part_of(step)),
     )
 }
 
 // The lookup on a column that rises, from its hint: where the hints are the column's own, few looks at the ids, most of them at neighbours.
-pub fn find_hinted(ids: &[u64], id: u64, hints: &[u32], scale: u32) -> Found
+pub fn find_hinted(ids: &[u64], id: u64, hints: &[u16], scale: u32) -> Found
     ensures { λ r. ⌜ Sought (now (ids .entry)) id r ⌝ }
 {
-    find_sorted(ids, id, guess(ids, id, hints, scale))
+    let at = guess(ids, id, hints, scale);
+    if at < ids.len() {
+        if ids[at] == id {
+            return Found::At(at);
+        }
+    }
+    find_sorted(ids, id, at)
 }

@@ -97,7 +97,7 @@ pair-few ids id = go (outcome ids (refOf 0 0 false id))
     go Outcome.nothing = omega arith
 
 -- where no reference gives a pair, there is none
-none-in : (ids : List ℕ) (f : ℕ → Ref) (n : ℕ) → ((k : ℕ) → refWeak ids (f k) ≡ []) → 0 ≡ pairsIn ids (tab f n)
+pub none-in : (ids : List ℕ) (f : ℕ → Ref) (n : ℕ) → ((k : ℕ) → refWeak ids (f k) ≡ []) → 0 ≡ pairsIn ids (tab f n)
 none-in ids f n h = sym (pairs-tab ids f n ∙ total-none _ n (λ k l. ap length (h k)))
 
 empty-in : (ids : List ℕ) → 0 ≡ pairsIn ids []

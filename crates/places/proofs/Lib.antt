@@ -1,3 +1,4 @@
 pub mod Counting
+pub mod Bound
 pub mod Placed
 pub mod Routes

@@ -61,6 +61,15 @@ copiedPlaces ids kinds classes lengths classIds loaders dumped classKinds slotSt
     total (heldAt kinds classes lengths classKinds slotStart slotEnd weak codes starts policy) (length kinds)
     + total (classPlaces false ids classIds loaders dumped staticStart staticEnd types values) (length classIds)
 
+-- No more than these: the codes that are not 0 of an object's part, and of each class that is found every object static and its loader.
+abbrev pub codesIn : List ℕ → List ℕ → List ℕ → List ℕ → List ℕ → List ℕ → List ℕ → ℕ → ℕ
+codesIn kinds classes lengths slotStart slotEnd codes starts o = total (codeAt codes (starts ! o)) (partAt kinds classes lengths slotStart slotEnd o)
+
+unfoldable pub mostPlaces : List ℕ → List ℕ → List ℕ → List ℕ → List ℕ → List ℕ → List ℕ → List ℕ → List ℕ → List ℕ → List ℕ → List ℕ → List ℕ → List ℕ → List ℕ → ℕ
+mostPlaces ids kinds classes lengths classIds loaders dumped slotStart slotEnd staticStart staticEnd types values codes starts =
+    total (codesIn kinds classes lengths slotStart slotEnd codes starts) (length kinds)
+    + total (classPlaces true ids classIds loaders dumped staticStart staticEnd types values) (length classIds)
+
 -- the range of each class stands in a column of n
 abbrev pub Ranges : List ℕ → List ℕ → ℕ → Type 0
 Ranges starts ends n = (c : ℕ) → c < length starts → (starts ! c ≤ ends ! c) × (ends ! c ≤ n)
@@ -97,3 +106,11 @@ pub record CodeTables (kinds classes lengths classKinds slotStart slotEnd weak c
   pub starts-long : length starts ≡ length kinds
   pub stands : (o : ℕ) → o < length kinds → Stands classKinds slotStart slotEnd weak codes (kinds ! o) (classes ! o) (lengths ! o) (starts ! o)
   pub few : length kinds ≤ 67108864
+
+-- Of the parts alone: each stands within n codes.
+pub record PartsIn (kinds classes lengths slotStart slotEnd starts : List ℕ) (n : ℕ) : Type 0 where
+  pub classes-long : length classes ≡ length kinds
+  pub lengths-long : length lengths ≡ length kinds
+  pub starts-long : length starts ≡ length kinds
+  pub ends-long : 0 < length kinds → length slotEnd ≡ length slotStart
+  pub span : (o : ℕ) → o < length kinds → kinds ! o < 2 → starts ! o + partAt kinds classes lengths slotStart slotEnd o ≤ n

@@ -1,5 +1,5 @@
 -- How the stages of a build come together: the answer, and all that is left. Assumes nothing.
-use Prim.Native.Nat.{ℕ, suc, _+_, _≤_}
+use Prim.Native.Nat.{ℕ, suc, _+_, _≤_, min}
 use native.Mathlib.Nat.{not-suc-le-zero}
 use native.Mathlib.Numerals.{add-one}
 use native.Mathlib.Omega.{arith}
@@ -22,7 +22,8 @@ use Rattle.rules.specs.Needs.{Rooms, Lent, buffer, needWeak, needRoots, needOff
 use Rattle.rules.specs.Verdict.{firstOf, at, faults, checkSays, counts, buildSays}
 use Rattle.rules.specs.Built.{CodedLeft, codedLeft, BuildLeft, buildLeft}
 use Rattle.rules.proofs.Acceptance.{Refuse, refuse-append, refuse-at, at-empty, Passed, passed, faults-refuse, build-says}
-use Rattle.stages.specs.Stages.{Early, earlyOf, shortEarly, roomSays, plain, edgesSays, edgeSays, kept, Settled, leftOf, roomsOf, Laid}
+use Rattle.stages.specs.Stages.{Early, earlyOf, shortEarly, roomSays, plain, edgesSays, edgeSays, Fits, kept, Settled, leftOf, roomsOf, Laid}
+use Rattle.stages.proofs.Fitting.{same-short}
 
 -- The first fault refuses.
 first-refuses : (f : List ℕ) (fs : List (List ℕ)) → Refuse (f ∷ fs) → accepts f ≡ false
@@ -42,14 +43,6 @@ offsets-are : (x : Input) → needOffsets (graph x) ≡ objectCount x + 1
 unfolding graph
 offsets-are x = tab-length (offset x) (suc (objectCount x)) ∙ sym (add-one (objectCount x))
 
-accepted-checks : (x : Input) → faults x ≡ [] → checkSays x ≡ 0 ∷ placeCount x ∷ []
-unfolding checkSays
-accepted-checks x h = rw h
-
-refused-checks : (x : Input) (f : List ℕ) (fs : List (List ℕ)) → faults x ≡ f ∷ fs → checkSays x ≡ f
-unfolding checkSays
-refused-checks x f fs h = rw h
-
 accepting : (xs : List ℕ) → accepts (0 ∷ xs) ≡ true
 unfolding accepts
 accepting xs = refl
@@ -66,26 +59,28 @@ edges-handed : (v : List ℕ) (p : Parts) → accepts v ≡ false → edgesSays 
 unfolding edgesSays
 edges-handed v p h = rw h
 
--- The first half: the checks, the needs, ROOM 1 to 4, the edges.
-module _ (x : Input) (e : Early) {c v r : List ℕ} (w n : ℕ) (checked : c ≡ checkSays x) (weak : accepts c ≡ true → w ≡ needWeak x) (roots : accepts c ≡ true → n ≡ needRoots x)
+-- The first half: the checks, the needs, ROOM 1 to 4, the edges. Numbers that fit where the needs do stand for the places, p, and the weak pairs, w.
+module _ (x : Input) (e : Early) {c v r : List ℕ} (p w n : ℕ) (checked : c ≡ firstOf (faults x) (0 ∷ p ∷ [])) (placed : accepts c ≡ true → Fits (min (e .targets) (e .labels)) (placeCount x) p)
+    (weak : accepts c ≡ true → Fits (min (e .weakFrom) (e .weakTo)) (needWeak x) w) (roots : accepts c ≡ true → n ≡ needRoots x)
     (rooms : v ≡ roomSays c w n (objectCount x + 1) e) (edges : r ≡ edgesSays v (graph x))
   where
     -- an input that passes the checks, and one that does not
     passes : faults x ≡ [] → r ≡ edgeSays x e
     unfolding edgeSays edgesSays
     passes none =
-        let said : c ≡ 0 ∷ placeCount x ∷ [] = checked ∙ accepted-checks x none in
-        let ok : accepts c ≡ true = ap accepts said ∙ accepting (placeCount x ∷ []) in
+        let said : c ≡ 0 ∷ p ∷ [] = checked ∙ rw none in
+        let ok : accepts c ≡ true = ap accepts said ∙ accepting (p ∷ []) in
         let es : List ℕ = shortEarly (placeCount x) (needWeak x) (needRoots x) (needOffsets (graph x)) e in
-        let a : List ℕ = 0 ∷ 0 ∷ needWeak x ∷ needRoots x ∷ 0 ∷ 0 ∷ 0 ∷ 0 ∷ [] in
-        let is : v ≡ firstOf (at 9 es) a = rooms ∙ rw (said, weak ok, roots ok, ← offsets-are x) (room-open (placeCount x) (needWeak x) (needRoots x) (needOffsets (graph x)) e) in
+        let a : List ℕ = 0 ∷ 0 ∷ w ∷ needRoots x ∷ 0 ∷ 0 ∷ 0 ∷ 0 ∷ [] in
+        let same = same-short (placeCount x) (needWeak x) p w (needRoots x) (needOffsets (graph x)) e (placed ok) (weak ok) in
+        let is : v ≡ firstOf (at 9 es) a = rooms ∙ rw (said, roots ok, ← offsets-are x, ← same) (room-open p w (needRoots x) (needOffsets (graph x)) e) in
         edges ∙ rw (is, none) (last-room es a (plain (graph x)) (accepting _))
 
     fails : (f : List ℕ) (fs : List (List ℕ)) → faults x ≡ f ∷ fs → r ≡ edgeSays x e
     unfolding edgeSays
     fails f fs some =
         let no : accepts f ≡ false = first-refuses f fs (rw (← some) (faults-refuse x)) in
-        let said : c ≡ f = checked ∙ refused-checks x f fs some in
+        let said : c ≡ f = checked ∙ rw some in
         let handed : v ≡ f = rooms ∙ room-handed c w n (objectCount x + 1) e (ap accepts said ∙ no) ∙ said in
         edges ∙ edges-handed v (graph x) (ap accepts handed ∙ no) ∙ handed ∙ rw some
 

@@ -1,3 +1,4 @@
 pub mod Tests
+pub mod Fitting
 pub mod Enough
 pub mod Compose

@@ -1,7 +1,8 @@
 -- What the narrow stages of a build answer and leave: ROOM of the first four buffers, and the end. Assumes nothing.
-use Prim.Native.Nat.{ℕ, _+_}
+use Prim.Native.Nat.{ℕ, _+_, _≤_}
 use mathlib.Core.Path.{_≡_}
 use mathlib.Core.Bool.{true, cond}
+use mathlib.Core.Logic.{_⊎_}
 use mathlib.Core.List.{List, [], _∷_, _++_}
 use lib.Dec.{ltb}
 use lib.ListN.{length, getD, take}
@@ -43,6 +44,10 @@ shortEarly places weak roots offsets e =
 
 unfoldable pub firstShort : ℕ → ℕ → ℕ → ℕ → Early → ℕ
 firstShort places weak roots offsets e = getD (shortEarly places weak roots offsets e) 0 0
+
+-- A number in the place of a need, where only so much room matters: it is the need, or both fit.
+unfoldable pub Fits : ℕ → ℕ → ℕ → Type 0
+Fits room need n = (n ≡ need) ⊎ ((need ≤ room) × (n ≤ room))
 
 -- The answer before the edges, from that of the checks; acceptance has the weak pairs and the roots.
 unfoldable pub roomSays : List ℕ → ℕ → ℕ → ℕ → Early → List ℕ

@@ -1,6 +1,6 @@
 // The narrow stages of a build: ROOM of the first four buffers, and the end, where every column is kept or cleared.
 ghost use mathlib.Core.Path.{_≡_};
-ghost use Prim.Native.Nat.{_+_};
+ghost use Prim.Native.Nat.{_+_, _≤_, min};
 ghost use mathlib.Core.Bool.{cond};
 ghost use Rattle.rules.specs.Account.{noAccount};
 ghost use Rattle.rules.specs.Types.{checkedSays, builtSays};
@@ -9,6 +9,13 @@ use rules::Built;
 use rules::Checked;
 use rules::Counts;
 use rules::Refusal;
+
+// A pair of columns has the room of the shorter.
+pub fn least(a: usize, b: usize) -> usize
+    ensures { λ r. ⌜ (r ≤ b) × (r ≡ min a b) ⌝ }
+{
+    if a < b { a } else { b }
+}
 
 // The first of buffers 1 to 4 that is smaller than its need, or 0.
 fn first_short(

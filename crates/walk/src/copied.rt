@@ -43,7 +43,7 @@ pub fn walk_copied(
     names: &[u32],
     types: &[u8],
     values: &[u64],
-    hints: &[u32],
+    hints: &[u16],
     scale: u32,
     targets: &mut [u32],
     labels: &mut [u32],
@@ -131,6 +131,7 @@ pub fn edges_copied(
     starts: &[u32],
     roots: &[u32],
     policy: rules::ReferencePolicy,
+    hints: &[u16],
     working: &mut [u64],
     targets: &mut [u32],
     labels: &mut [u32],
@@ -144,9 +145,7 @@ pub fn edges_copied(
     if !rules::accepted(v) {
         return v;
     }
-    let mut hints: [u32; 32769] = [0; 32769];
-    let scale = lookup::hints::scale(ids);
-    lookup::hints::mark(ids, scale, &mut hints);
+    let scale = lookup::hints::scale(ids, hints.len());
     let q = walk_copied(
         Pass::begun(),
         0,
@@ -173,7 +172,7 @@ pub fn edges_copied(
         names,
         types,
         values,
-        &hints,
+        hints,
         scale,
         targets,
         labels,

@@ -42,7 +42,7 @@ pub fn walk_raw(
     names: &[u32],
     types: &[u8],
     values: &[u64],
-    hints: &[u32],
+    hints: &[u16],
     scale: u32,
     targets: &mut [u32],
     labels: &mut [u32],
@@ -124,6 +124,7 @@ pub fn edges_raw(
     bodies: &[u32],
     roots: &[u32],
     policy: rules::ReferencePolicy,
+    hints: &[u16],
     working: &mut [u64],
     targets: &mut [u32],
     labels: &mut [u32],
@@ -137,9 +138,7 @@ pub fn edges_raw(
     if !rules::accepted(v) {
         return v;
     }
-    let mut hints: [u32; 32769] = [0; 32769];
-    let scale = lookup::hints::scale(ids);
-    lookup::hints::mark(ids, scale, &mut hints);
+    let scale = lookup::hints::scale(ids, hints.len());
     let q = walk_raw(
         Pass::begun(),
         0,
@@ -166,7 +165,7 @@ pub fn edges_raw(
         names,
         types,
         values,
-        &hints,
+        hints,
         scale,
         targets,
         labels,

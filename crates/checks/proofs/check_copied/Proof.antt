@@ -1,62 +1,11 @@
--- `checks::check_copied` meets its contract: the tests before, then the places, then the marks kept or cleared. Assumes nothing.
-use mathlib.Core.Path.{_≡_, refl, sym, ap, _∙_}
-use mathlib.Core.Bool.{true}
-use mathlib.Core.List.{List, [], _∷_}
-use Prim.Native.Nat.{ℕ}
-use lib.ListN.{length}
-use Rattle.columns.specs.Columns.{accepts}
-use Rattle.rules.specs.Types.{checkedSays}
-use Rattle.rules.specs.Input.{Input, classCount}
-use Rattle.rules.specs.Verdict.{firstOf, checkSays}
-use Rattle.input.specs.Reads.{noPolicy}
-use Rattle.input.specs.Found.{marksIf}
-use Rattle.checks.specs.Flat.{copiedInput, faultsBefore}
-use Rattle.checks.proofs.Sound.{sound, class-tables, code-tables, copied-counted}
-use Rattle.checks.proofs.Join.{narrow, before-policy, joined, marks-left, zeroed-length, zeroed-own}
+-- `checks::check_copied` meets its contract: no room, and so the places. Assumes nothing.
 use borrow.Author.Needs.{needs}
+use Rattle.checks.proofs.Theorems.{fitted-judged}
 use Rattle.checks.proofs.check_copied.Statement.{statement}
 use Rattle.checks.proofs.check_copied.Tie as tie
 
-abbrev inputOf : tie.Start → Input
-inputOf s = let a = s .args in copiedInput (a .ids .now) (a .kinds .now) (a .classes .now) (a .lengths .now) (a .class-ids .now) (a .loaders .now) (a .dumped .now) (a .class-kinds .now) (a .slot-starts .now) (a .slot-ends .now) (a .static-starts .now) (a .static-ends .now) (a .slot-offsets .now) (a .slot-labels .now) (a .slot-weak .now) (a .static-names .now) (a .static-types .now) (a .static-values .now) (a .names) (a .codes .now) (a .escape-places .now) (a .escape-ids .now) (a .base) (a .starts .now) (a .roots .now) (a .policy)
-
--- what the tests before said, without regard to the policy, and the marks that they left
-said : (c : tie.After-judge-copied) → checkedSays (c .judge-copied .result) ≡ firstOf (faultsBefore (inputOf (c .before .before .before .before .before .before .before .before .before .before .before .before .before .before .before .before .before .before .before .before .before .before .before .before .before .before .before .before .before .before))) (0 ∷ 0 ∷ [])
-said c = c .judge-copied .ensures .0 ∙ ap (λ (fs : List (List ℕ)). firstOf fs (0 ∷ 0 ∷ [])) (before-policy (inputOf (c .before .before .before .before .before .before .before .before .before .before .before .before .before .before .before .before .before .before .before .before .before .before .before .before .before .before .before .before .before .before)) noPolicy)
-
-marked : (c : tie.After-judge-copied) → accepts (checkedSays (c .judge-copied .result)) ≡ true → c .judge-copied .last .1 .1 .1 .1 .1 .1 .1 .1 .1 .1 .1 .1 .1 .1 .1 .1 .1 .1 .1 .1 .1 .1 .1 .1 .1 .0 ≡ marksIf (narrow (inputOf (c .before .before .before .before .before .before .before .before .before .before .before .before .before .before .before .before .before .before .before .before .before .before .before .before .before .before .before .before .before .before))) (classCount (inputOf (c .before .before .before .before .before .before .before .before .before .before .before .before .before .before .before .before .before .before .before .before .before .before .before .before .before .before .before .before .before .before) .schema)) (length (c .before .before .before .before .before .before .before .before .before .before .before .before .before .before .before .before .before .before .before .before .before .before .before .before .before .before .before .before .before .before .args .working .now))
-marked c ok = c .judge-copied .ensures .1 ok ∙ ap (marksIf (narrow (inputOf (c .before .before .before .before .before .before .before .before .before .before .before .before .before .before .before .before .before .before .before .before .before .before .before .before .before .before .before .before .before .before))) (classCount (inputOf (c .before .before .before .before .before .before .before .before .before .before .before .before .before .before .before .before .before .before .before .before .before .before .before .before .before .before .before .before .before .before) .schema))) (zeroed-length (c .before .before .before .before .before .before .before .before .before .before .before .before .before .before .before .before .before .before .before .before .before .before .before .before .before .before .before .before .before .before .args .working .now) (c .before .before .before .before .zero-u64 .ensures))
-
-same : (c : tie.After-judge-copied) → length (c .judge-copied .last .1 .1 .1 .1 .1 .1 .1 .1 .1 .1 .1 .1 .1 .1 .1 .1 .1 .1 .1 .1 .1 .1 .1 .1 .1 .0) ≡ length (c .before .before .before .before .before .before .before .before .before .before .before .before .before .before .before .before .before .before .before .before .before .before .before .before .before .before .before .before .before .before .args .working .now)
-same c = c .judge-copied .kept .1 .1 .1 .1 .1 .1 .1 .1 .1 .1 .1 .1 .1 .1 .1 .1 .1 .1 .1 .1 .1 .1 .1 .1 .1 .0 ∙ zeroed-length (c .before .before .before .before .before .before .before .before .before .before .before .before .before .before .before .before .before .before .before .before .before .before .before .before .before .before .before .before .before .before .args .working .now) (c .before .before .before .before .zero-u64 .ensures)
-
-answer : (c : tie.After-count-copied) → checkedSays (c .count-copied .result) ≡ checkSays (inputOf (c .before .before .before .before .before .before .before .before .before .before .before .before .before .before .before .before .before .before .before .before .before .before .before .before .before .before .before .before .before .before .before .before .before))
-answer c = joined (inputOf (c .before .before .before .before .before .before .before .before .before .before .before .before .before .before .before .before .before .before .before .before .before .before .before .before .before .before .before .before .before .before .before .before .before)) _ (said (c .before .before .before)) (λ ok. copied-counted (inputOf (c .before .before .before .before .before .before .before .before .before .before .before .before .before .before .before .before .before .before .before .before .before .before .before .before .before .before .before .before .before .before .before .before .before)) (sound (inputOf (c .before .before .before .before .before .before .before .before .before .before .before .before .before .before .before .before .before .before .before .before .before .before .before .before .before .before .before .before .before .before .before .before .before)) (said (c .before .before .before)) ok) _ refl) (c .count-copied .ensures)
-
-judge-copied-requires : tie.Need-judge-copied-requires
-judge-copied-requires c κs = zeroed-own (c .before .before .before .before .before .before .before .before .before .before .before .before .before .before .before .before .before .before .before .before .before .before .before .before .before .before .before .before .before .args .working .now) (c .before .before .before .zero-u64 .ensures)
-
-count-copied-requires : tie.Need-count-copied-requires
-count-copied-requires c κs = λ ok. let h = sound (inputOf (c .before .before .before .before .before .before .before .before .before .before .before .before .before .before .before .before .before .before .before .before .before .before .before .before .before .before .before .before .before .before .before .before)) (said (c .before .before)) ok in (code-tables (inputOf (c .before .before .before .before .before .before .before .before .before .before .before .before .before .before .before .before .before .before .before .before .before .before .before .before .before .before .before .before .before .before .before .before)) h _ refl, class-tables (inputOf (c .before .before .before .before .before .before .before .before .before .before .before .before .before .before .before .before .before .before .before .before .before .before .before .before .before .before .before .before .before .before .before .before)) h)
-
-same-length : tie.Need-same-length
-same-length c = c .before .before .settle .kept .1 .0 ∙ same (c .before .before .before .before .before .before .before .before)
-
 returns : tie.Need-returns
-returns c =
-    record {
-      answer = answer (c .before .before .before .before .before);
-      marks = marks-left (inputOf (c .before .before .before .before .before .before .before .before .before .before .before .before .before .before .before .before .before .before .before .before .before .before .before .before .before .before .before .before .before .before .before .before .before .before .before .before .before .before)) _ (length (c .before .before .before .before .before .before .before .before .before .before .before .before .before .before .before .before .before .before .before .before .before .before .before .before .before .before .before .before .before .before .before .before .before .before .before .before .before .before .args .working .now)) (checkedSays (c .before .before .before .before .before .before .before .before .judge-copied .result)) (c .before .before .before .before .before .count-copied .ensures) (answer (c .before .before .before .before .before)) (marked (c .before .before .before .before .before .before .before .before)) (same (c .before .before .before .before .before .before .before .before)) (c .before .before .before .before .accepted .ensures) (c .before .before .settle .ensures);
-    }
+returns c = fitted-judged (c .before .before .fit-copied .ensures)
 
 pub check-copied-spec : {M : Type 1} → statement M
-check-copied-spec =
-    tie.close
-    (tie.spec
-    (λ c κs. search needs)
-    judge-copied-requires
-    count-copied-requires
-    (λ c κs. search needs)
-    (λ c κs. search needs)
-    same-length
-    returns)
+check-copied-spec = tie.close (tie.spec (λ c κs. search needs) (λ c. search needs) returns)

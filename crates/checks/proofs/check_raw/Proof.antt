@@ -7,6 +7,7 @@ use lib.ListN.{length}
 use Rattle.columns.specs.Columns.{accepts}
 use Rattle.rules.specs.Types.{checkedSays}
 use Rattle.rules.specs.Input.{Input, classCount}
+use Rattle.rules.specs.Places.{placeCount}
 use Rattle.rules.specs.Verdict.{firstOf, checkSays}
 use Rattle.input.specs.Reads.{noPolicy}
 use Rattle.input.specs.Found.{marksIf}
@@ -31,13 +32,14 @@ same : (c : tie.After-judge-raw) → length (c .judge-raw .last .1 .1 .1 .1 .1 .
 same c = c .judge-raw .kept .1 .1 .1 .1 .1 .1 .1 .1 .1 .1 .1 .1 .1 .1 .1 .1 .1 .1 .1 .1 .1 .1 .1 .1 .0 ∙ zeroed-length (c .before .before .before .before .before .before .before .before .before .before .before .before .before .before .before .before .before .before .before .before .before .before .before .before .before .before .before .before .before .args .working .now) (c .before .before .before .before .zero-u64 .ensures)
 
 answer : (c : tie.After-count-raw) → checkedSays (c .count-raw .result) ≡ checkSays (inputOf (c .before .before .before .before .before .before .before .before .before .before .before .before .before .before .before .before .before .before .before .before .before .before .before .before .before .before .before .before .before .before .before .before))
-answer c = joined (inputOf (c .before .before .before .before .before .before .before .before .before .before .before .before .before .before .before .before .before .before .before .before .before .before .before .before .before .before .before .before .before .before .before .before)) _ (said (c .before .before .before)) (λ ok. raw-counted (inputOf (c .before .before .before .before .before .before .before .before .before .before .before .before .before .before .before .before .before .before .before .before .before .before .before .before .before .before .before .before .before .before .before .before)) (sound (inputOf (c .before .before .before .before .before .before .before .before .before .before .before .before .before .before .before .before .before .before .before .before .before .before .before .before .before .before .before .before .before .before .before .before)) (said (c .before .before .before)) ok) _ refl) (c .count-raw .ensures)
+unfolding checkSays
+answer c = joined (inputOf (c .before .before .before .before .before .before .before .before .before .before .before .before .before .before .before .before .before .before .before .before .before .before .before .before .before .before .before .before .before .before .before .before)) 0 _ _ (placeCount (inputOf (c .before .before .before .before .before .before .before .before .before .before .before .before .before .before .before .before .before .before .before .before .before .before .before .before .before .before .before .before .before .before .before .before))) (said (c .before .before .before)) (λ ok. raw-counted (inputOf (c .before .before .before .before .before .before .before .before .before .before .before .before .before .before .before .before .before .before .before .before .before .before .before .before .before .before .before .before .before .before .before .before)) (sound (inputOf (c .before .before .before .before .before .before .before .before .before .before .before .before .before .before .before .before .before .before .before .before .before .before .before .before .before .before .before .before .before .before .before .before)) 0 (said (c .before .before .before)) ok) _ refl) (λ ok. raw-counted (inputOf (c .before .before .before .before .before .before .before .before .before .before .before .before .before .before .before .before .before .before .before .before .before .before .before .before .before .before .before .before .before .before .before .before)) (sound (inputOf (c .before .before .before .before .before .before .before .before .before .before .before .before .before .before .before .before .before .before .before .before .before .before .before .before .before .before .before .before .before .before .before .before)) 0 (said (c .before .before .before)) ok) _ refl) (c .count-raw .ensures)
 
 judge-raw-requires : tie.Need-judge-raw-requires
 judge-raw-requires c κs = zeroed-own (c .before .before .before .before .before .before .before .before .before .before .before .before .before .before .before .before .before .before .before .before .before .before .before .before .before .before .before .before .args .working .now) (c .before .before .before .zero-u64 .ensures)
 
 count-raw-requires : tie.Need-count-raw-requires
-count-raw-requires c κs = λ ok. let h = sound (inputOf (c .before .before .before .before .before .before .before .before .before .before .before .before .before .before .before .before .before .before .before .before .before .before .before .before .before .before .before .before .before .before .before)) (said (c .before .before)) ok in (part-tables (inputOf (c .before .before .before .before .before .before .before .before .before .before .before .before .before .before .before .before .before .before .before .before .before .before .before .before .before .before .before .before .before .before .before)) h, class-tables (inputOf (c .before .before .before .before .before .before .before .before .before .before .before .before .before .before .before .before .before .before .before .before .before .before .before .before .before .before .before .before .before .before .before)) h)
+count-raw-requires c κs = λ ok. let h = sound (inputOf (c .before .before .before .before .before .before .before .before .before .before .before .before .before .before .before .before .before .before .before .before .before .before .before .before .before .before .before .before .before .before .before)) 0 (said (c .before .before)) ok in (part-tables (inputOf (c .before .before .before .before .before .before .before .before .before .before .before .before .before .before .before .before .before .before .before .before .before .before .before .before .before .before .before .before .before .before .before)) h, class-tables (inputOf (c .before .before .before .before .before .before .before .before .before .before .before .before .before .before .before .before .before .before .before .before .before .before .before .before .before .before .before .before .before .before .before)) h)
 
 same-length : tie.Need-same-length
 same-length c = c .before .before .settle .kept .1 .0 ∙ same (c .before .before .before .before .before .before .before .before)
@@ -46,7 +48,7 @@ returns : tie.Need-returns
 returns c =
     record {
       answer = answer (c .before .before .before .before .before);
-      marks = marks-left (inputOf (c .before .before .before .before .before .before .before .before .before .before .before .before .before .before .before .before .before .before .before .before .before .before .before .before .before .before .before .before .before .before .before .before .before .before .before .before .before)) _ (length (c .before .before .before .before .before .before .before .before .before .before .before .before .before .before .before .before .before .before .before .before .before .before .before .before .before .before .before .before .before .before .before .before .before .before .before .before .before .args .working .now)) (checkedSays (c .before .before .before .before .before .before .before .before .judge-raw .result)) (c .before .before .before .before .before .count-raw .ensures) (answer (c .before .before .before .before .before)) (marked (c .before .before .before .before .before .before .before .before)) (same (c .before .before .before .before .before .before .before .before)) (c .before .before .before .before .accepted .ensures) (c .before .before .settle .ensures);
+      marks = marks-left (inputOf (c .before .before .before .before .before .before .before .before .before .before .before .before .before .before .before .before .before .before .before .before .before .before .before .before .before .before .before .before .before .before .before .before .before .before .before .before .before)) _ _ (length (c .before .before .before .before .before .before .before .before .before .before .before .before .before .before .before .before .before .before .before .before .before .before .before .before .before .before .before .before .before .before .before .before .before .before .before .before .before .args .working .now)) (checkedSays (c .before .before .before .before .before .before .before .before .judge-raw .result)) (c .before .before .before .before .before .count-raw .ensures) (ap accepts (answer (c .before .before .before .before .before))) (marked (c .before .before .before .before .before .before .before .before)) (same (c .before .before .before .before .before .before .before .before)) (c .before .before .before .before .accepted .ensures) (c .before .before .settle .ensures);
     }
 
 pub check-raw-spec : {M : Type 1} → statement M

@@ -1,27 +1,33 @@
 -- `checks::count::count_copied` meets its contract: by what was answered before. Assumes nothing.
 use mathlib.Core.Path.{_≡_, sym, ap, _∙_}
 use mathlib.Core.Bool.{true}
+use Rattle.columns.specs.Lists.{_!_}
 use Rattle.columns.specs.Columns.{accepts}
 use Rattle.rules.specs.declared.Checked.{Checked}
 use Rattle.rules.specs.Types.{checkedSays}
 use Rattle.rules.proofs.Types.{refusal-refuses}
-use Rattle.checks.proofs.Join.{counted-on, counted-not}
+use Rattle.checks.proofs.Join.{counted-fit, not-counted}
 use borrow.Author.Needs.{needs}
 use Rattle.checks.proofs.count.count_copied.Statement.{statement}
 use Rattle.checks.proofs.count.count_copied.Tie as tie
 
-ok : (c : tie.After-enum-told) → accepts (checkedSays (c .before .before .before .before .before .before .before .before .before .before .before .before .before .before .before .before .before .before .before .args .tested)) ≡ true
-unfolding accepts
-ok c = ap (λ (b : Checked). accepts (checkedSays b)) (c .enum-told .given .1)
+given : (c : tie.After-least-room) → c .before .before .before .before .before .before .before .before .before .before .before .before .before .before .before .before .before .before .before .before .before .args .tested ≡ Checked.Accepted (c .before .before .tested2 .given .0 .0)
+given c = c .before .before .tested2 .given .1
 
-copied-places-requires : tie.Need-copied-places-requires
-copied-places-requires c κs = c .before .before .before .before .before .before .before .before .before .before .before .before .before .before .before .before .before .before .before .pre (ok c)
+ok : (c : tie.After-least-room) → accepts (checkedSays (c .before .before .before .before .before .before .before .before .before .before .before .before .before .before .before .before .before .before .before .before .before .args .tested)) ≡ true
+unfolding accepts
+ok c = ap (λ (b : Checked). accepts (checkedSays b)) (given c)
+
+fit-places-requires : tie.Need-fit-places-requires
+fit-places-requires c κs =
+    let h = c .before .before .before .before .before .before .before .before .before .before .before .before .before .before .before .before .before .before .before .before .before .pre (ok c) in
+    (sym (ap (λ (b : Checked). checkedSays b ! 1) (given c)) ∙ h .2, (h .0, h .1))
 
 returns : tie.Need-returns
-returns c = sym (ap checkedSays (c .before .tested .given .1)) ∙ counted-not (checkedSays (c .before .before .before .before .before .before .before .before .before .before .before .before .before .before .before .before .before .before .before .before .args .tested)) _ (ap (λ (b : Checked). accepts (checkedSays b)) (c .before .tested .given .1) ∙ refusal-refuses (c .before .tested .given .0 .0))
+returns c = not-counted (checkedSays (c .before .before .before .before .before .before .before .before .before .before .before .before .before .before .before .before .before .before .before .before .args .tested)) _ _ (ap checkedSays (c .before .tested .given .1)) (ap (λ (b : Checked). accepts (checkedSays b)) (c .before .tested .given .1) ∙ refusal-refuses (c .before .tested .given .0 .0))
 
 returns-2 : tie.Need-returns-2
-returns-2 c = counted-on (checkedSays (c .before .before .before .before .before .before .before .before .before .before .before .before .before .before .before .before .before .before .before .before .before .args .tested)) (ok (c .before .before)) (c .before .copied-places .ensures) (c .limited .ensures)
+returns-2 c = counted-fit (c .before .before .before .before .before .before .before .before .before .before .before .before .before .before .before .before .before .before .before .before .before .before .before .args .room) _ _ (checkedSays (c .before .before .before .before .before .before .before .before .before .before .before .before .before .before .before .before .before .before .before .before .before .before .before .args .tested)) (ok (c .before .before)) (c .before .before .least-room .ensures) (c .before .fit-places .ensures) (c .limited .ensures)
 
 pub count-copied-spec : {M : Type 1} → statement M
 count-copied-spec =
@@ -29,7 +35,8 @@ count-copied-spec =
     (tie.spec
     (λ c. search needs)
     (λ c. search needs)
-    copied-places-requires
+    (λ c κs. search needs)
+    fit-places-requires
     (λ c κs. search needs)
     returns
     returns-2)

@@ -1,7 +1,7 @@
 -- `checks::judge::judge_copied` meets its contract: test by test. Assumes nothing.
 use mathlib.Core.Path.{_≡_, refl, sym, ap, _∙_}
 use mathlib.Core.Bool.{false}
-use mathlib.Core.List.{[], _∷_}
+use mathlib.Core.List.{List, [], _∷_}
 use Prim.Native.Nat.{ℕ}
 use lib.ListN.{length}
 use Rattle.rules.specs.Types.{checkedSays}
@@ -10,6 +10,7 @@ use Rattle.rules.specs.Input.{Input, objectCount, classCount, slotCount, elemen
 use Rattle.rules.specs.Verdict.{firstOf, badLengths, schemaLengths, routeLengths, badLimit, overLimit, badSize, badObject, badClass, badSlot, badStatic, badDumped, badFind, badCopied, badSpan, badPart}
 use Rattle.input.specs.Reads.{noPolicy}
 use Rattle.input.specs.Lengths.{limits}
+use Rattle.input.specs.Copying.{heldCodes}
 use Rattle.input.specs.Found.{marksIf, findColumns}
 use Rattle.checks.specs.Flat.{copiedInput, faultsLate}
 use Rattle.checks.proofs.Chain.{before-lengths, before-limit, before-object, before-class, before-late, refused, objects-even, dumped-even, tables-even, copied-even, ids-rise, finds-none, first-ext}
@@ -22,6 +23,10 @@ use Rattle.checks.proofs.judge.judge_copied.Tie as tie
 
 abbrev inputOf : tie.Start → Input
 inputOf s = let a = s .args in copiedInput (a .ids .now) (a .kinds .now) (a .classes .now) (a .lengths .now) (a .class-ids .now) (a .loaders .now) (a .dumped .now) (a .class-kinds .now) (a .slot-starts .now) (a .slot-ends .now) (a .static-starts .now) (a .static-ends .now) (a .slot-offsets .now) (a .slot-labels .now) (a .slot-weak .now) (a .static-names .now) (a .static-types .now) (a .static-values .now) (a .names) (a .codes .now) (a .escape-places .now) (a .escape-ids .now) (a .base) (a .starts .now) (a .roots .now) noPolicy
+
+-- what an acceptance tells
+abbrev told : tie.Start → List ℕ
+told s = 0 ∷ heldCodes (s .args .codes .now) ∷ []
 
 uneven : (c : tie.After-copied-lengths) → badLengths (inputOf (c .before .before .before .before .before .before .before .before .before .before .before .before .before .before .before .before .before .before .before .before .before .before .before .before .before)) ≡ c .copied-lengths .result
 unfolding badLengths schemaLengths routeLengths
@@ -38,17 +43,17 @@ object c = c .first-object .ensures
 class : (c : tie.After-first-dumped) → c .first-dumped .result ≡ firstPlace (badDumped (inputOf (c .before .before .before .before .before .before .before .before .before .before .before .before .before .before .before .before .before .before .before .before .before .before .before .before .before .before .before .before .before .before .before .before))) (classCount (inputOf (c .before .before .before .before .before .before .before .before .before .before .before .before .before .before .before .before .before .before .before .before .before .before .before .before .before .before .before .before .before .before .before .before) .schema))
 class c = c .first-dumped .ensures .0 ∙ first-ext _ (badDumped (inputOf (c .before .before .before .before .before .before .before .before .before .before .before .before .before .before .before .before .before .before .before .before .before .before .before .before .before .before .before .before .before .before .before .before))) _ (λ i. same-dumped (inputOf (c .before .before .before .before .before .before .before .before .before .before .before .before .before .before .before .before .before .before .before .before .before .before .before .before .before .before .before .before .before .before .before .before)) i)
 
-rest : (c : tie.After-judge-ids) → checkedSays (c .judge-ids .result) ≡ firstOf (faultsLate (inputOf (c .before .before .before .before .before .before .before .before .before .before .before .before .before .before .before .before .before .before .before .before .before .before .before .before .before .before .before .before .before .before .before .before .before .before .before .before))) (0 ∷ 0 ∷ [])
+rest : (c : tie.After-judge-ids) → checkedSays (c .judge-ids .result) ≡ firstOf (faultsLate (inputOf (c .before .before .before .before .before .before .before .before .before .before .before .before .before .before .before .before .before .before .before .before .before .before .before .before .before .before .before .before .before .before .before .before .before .before .before .before))) (told (c .before .before .before .before .before .before .before .before .before .before .before .before .before .before .before .before .before .before .before .before .before .before .before .before .before .before .before .before .before .before .before .before .before .before .before .before))
 unfolding faultsLate badCopied badSpan badPart slotCount elementCount
 rest c = c .judge-ids .ensures
 
 returns : tie.Need-returns
 returns c =
-    (before-lengths (inputOf (c .before .before .before .before .before .before .before .before .before .before .before .before .before .before .before .before .before .before .before .before .before .before .before .before .before .before)) (0 ∷ 0 ∷ []) (uneven (c .before) ∙ c .if1 .taken), refused 0 (0 ∷ []))
+    (before-lengths (inputOf (c .before .before .before .before .before .before .before .before .before .before .before .before .before .before .before .before .before .before .before .before .before .before .before .before .before .before)) (told (c .before .before .before .before .before .before .before .before .before .before .before .before .before .before .before .before .before .before .before .before .before .before .before .before .before .before)) (uneven (c .before) ∙ c .if1 .taken), refused 0 (0 ∷ []))
 
 returns-2 : tie.Need-returns-2
 returns-2 c =
-    (before-limit (inputOf (c .before .before .before .before .before .before .before .before .before .before .before .before .before .before .before .before .before .before .before .before .before .before .before .before .before .before .before .before)) (0 ∷ 0 ∷ []) (uneven (c .before .before .before) ∙ c .before .before .if1 .left) (over (c .before) ∙ c .if2 .taken), refused 1 (0 ∷ []))
+    (before-limit (inputOf (c .before .before .before .before .before .before .before .before .before .before .before .before .before .before .before .before .before .before .before .before .before .before .before .before .before .before .before .before)) (told (c .before .before .before .before .before .before .before .before .before .before .before .before .before .before .before .before .before .before .before .before .before .before .before .before .before .before .before .before)) (uneven (c .before .before .before) ∙ c .before .before .if1 .left) (over (c .before) ∙ c .if2 .taken), refused 1 (0 ∷ []))
 
 first-object-requires : tie.Need-first-object-requires
 first-object-requires c κs =
@@ -57,7 +62,7 @@ first-object-requires c κs =
 
 returns-3 : tie.Need-returns-3
 returns-3 c =
-    (before-object (inputOf (c .before .before .before .before .before .before .before .before .before .before .before .before .before .before .before .before .before .before .before .before .before .before .before .before .before .before .before .before .before .before)) (0 ∷ 0 ∷ []) (uneven (c .before .before .before .before .before) ∙ c .before .before .before .before .if1 .left) (over (c .before .before .before) ∙ c .before .before .if2 .left) (object (c .before)) (c .if3 .taken), refused 2 (c .before .first-object .result ∷ []))
+    (before-object (inputOf (c .before .before .before .before .before .before .before .before .before .before .before .before .before .before .before .before .before .before .before .before .before .before .before .before .before .before .before .before .before .before)) (told (c .before .before .before .before .before .before .before .before .before .before .before .before .before .before .before .before .before .before .before .before .before .before .before .before .before .before .before .before .before .before)) (uneven (c .before .before .before .before .before) ∙ c .before .before .before .before .if1 .left) (over (c .before .before .before) ∙ c .before .before .if2 .left) (object (c .before)) (c .if3 .taken), refused 2 (c .before .first-object .result ∷ []))
 
 first-dumped-requires : tie.Need-first-dumped-requires
 first-dumped-requires c κs =
@@ -73,7 +78,7 @@ same-length-2 c = marksIf-same _ _ _ (c .before .before .before .before .first-d
 
 returns-4 : tie.Need-returns-4
 returns-4 c =
-    (before-class (inputOf (c .before .before .before .before .before .before .before .before .before .before .before .before .before .before .before .before .before .before .before .before .before .before .before .before .before .before .before .before .before .before .before .before .before .before .before)) (0 ∷ 0 ∷ []) (uneven (c .before .before .before .before .before .before .before .before .before .before) ∙ c .before .before .before .before .before .before .before .before .before .if1 .left) (over (c .before .before .before .before .before .before .before .before) ∙ c .before .before .before .before .before .before .before .if2 .left) (object (c .before .before .before .before .before .before)) (c .before .before .before .before .before .if3 .left) (class (c .before .before .before)) (c .if4 .taken), refused 3 (c .before .before .before .first-dumped .result ∷ []))
+    (before-class (inputOf (c .before .before .before .before .before .before .before .before .before .before .before .before .before .before .before .before .before .before .before .before .before .before .before .before .before .before .before .before .before .before .before .before .before .before .before)) (told (c .before .before .before .before .before .before .before .before .before .before .before .before .before .before .before .before .before .before .before .before .before .before .before .before .before .before .before .before .before .before .before .before .before .before .before)) (uneven (c .before .before .before .before .before .before .before .before .before .before) ∙ c .before .before .before .before .before .before .before .before .before .if1 .left) (over (c .before .before .before .before .before .before .before .before) ∙ c .before .before .before .before .before .before .before .if2 .left) (object (c .before .before .before .before .before .before)) (c .before .before .before .before .before .if3 .left) (class (c .before .before .before)) (c .if4 .taken), refused 3 (c .before .before .before .first-dumped .result ∷ []))
 
 judge-ids-requires : tie.Need-judge-ids-requires
 judge-ids-requires c κs =
@@ -88,7 +93,7 @@ returns-5 : tie.Need-returns-5
 returns-5 c =
     let x = inputOf (c .before .before .before .before .before .before .before .before .before .before .before .before .before .before .before .before .before .before .before .before .before .before .before .before .before .before .before .before .before .before .before .before .before .before .before .before) in
     let a = c .before .before .before .before .before .before .before .before .before .before .before .before .before .before .before .before .before .before .before .before .before .before .before .before .before .before .before .before .before .before .before .before .before .before .before .before .args in (
-      rest (c) ∙ before-late x (0 ∷ 0 ∷ []) (uneven (c .before .before .before .before .before .before .before .before .before .before .before) ∙ c .before .before .before .before .before .before .before .before .before .before .if1 .left) (over (c .before .before .before .before .before .before .before .before .before) ∙ c .before .before .before .before .before .before .before .before .if2 .left) (object (c .before .before .before .before .before .before .before)) (c .before .before .before .before .before .before .if3 .left) (class (c .before .before .before .before)) (c .before .if4 .left),
+      rest (c) ∙ before-late x (told (c .before .before .before .before .before .before .before .before .before .before .before .before .before .before .before .before .before .before .before .before .before .before .before .before .before .before .before .before .before .before .before .before .before .before .before .before)) (uneven (c .before .before .before .before .before .before .before .before .before .before .before) ∙ c .before .before .before .before .before .before .before .before .before .before .if1 .left) (over (c .before .before .before .before .before .before .before .before .before) ∙ c .before .before .before .before .before .before .before .before .if2 .left) (object (c .before .before .before .before .before .before .before)) (c .before .before .before .before .before .before .if3 .left) (class (c .before .before .before .before)) (c .before .if4 .left),
       λ ok. c .before .before .before .before .first-dumped .ensures .1 ∙ sym (ap (λ (k : ℕ). marksIf (findColumns (a .ids .now) (a .kinds .now) (a .class-ids .now) (a .dumped .now)) k (length (a .working .now))) (finds-none x (class (c .before .before .before .before)) (c .before .if4 .left) ∙ first-ext (badFind x) _ _ (same-find x))),
     )
 

@@ -1,13 +1,15 @@
 -- `checks::late::judge_ids` meets its contract: test by test. Assumes nothing.
 use mathlib.Core.Path.{_≡_, sym, ap, _∙_}
-use mathlib.Core.List.{[], _∷_}
+use mathlib.Core.List.{List, [], _∷_}
 use Prim.Native.Nat.{ℕ, _≤_}
 use native.Mathlib.Omega.{arith}
 use lib.ListN.{take}
 use Rattle.columns.specs.Lists.{firstPlace}
 use Rattle.rules.specs.Input.{Input, objectCount, slotCount, elementCount}
 use Rattle.rules.specs.Verdict.{badCopied, badSpan, badPart, badRoot}
-use Rattle.input.specs.Copying.{faultSays}
+use Rattle.input.specs.Copying.{testedSays, heldSays, heldCodes}
+use Rattle.input.specs.declared.copied.Tested.{Tested}
+use Rattle.input.specs.declared.copied.Tested.the-variants.{Held}
 use Rattle.checks.specs.Flat.{lateColumns}
 use Rattle.checks.proofs.Chain.{late-copied, late-span, late-root, late-none}
 use borrow.Author.Needs.{needs}
@@ -17,35 +19,45 @@ use Rattle.checks.proofs.late.judge_ids.Tie as tie
 abbrev inputOf : tie.Start → Input
 inputOf s = let a = s .args in lateColumns (a .ids .now) (a .kinds .now) (a .classes .now) (a .lengths .now) (a .slot-starts .now) (a .slot-ends .now) (a .codes .now) (a .escape-places .now) (a .escape-ids .now) (a .base) (a .starts .now) (a .roots .now)
 
-part : (c : tie.After-first-copied-span) → c .first-copied-span .result ≡ firstPlace (badSpan (inputOf (c .before .before .before .before .before .before .before .before .before .before .before .before .before .before .before))) (objectCount (inputOf (c .before .before .before .before .before .before .before .before .before .before .before .before .before .before .before)))
-unfolding badSpan badPart slotCount elementCount
-part c = c .first-copied-span .ensures ∙ ap (firstPlace (badSpan (inputOf (c .before .before .before .before .before .before .before .before .before .before .before .before .before .before .before)))) (c .before .before .before .before .before .before .before .before .before .before .before .before .before .before .before .pre .0)
+-- what an acceptance tells
+abbrev told : tie.Start → List ℕ
+told s = 0 ∷ heldCodes (s .args .codes .now) ∷ []
 
-clean : (c : tie.After-enum-told) → [] ≡ take 1 (badCopied (inputOf (c .before .before .before .before .before .before .before .before .before .before .before .before .before .before) .route))
+part : (c : tie.After-first-copied-span) → c .first-copied-span .result ≡ firstPlace (badSpan (inputOf (c .before .before .before .before .before .before .before .before .before .before .before .before .before .before .before .before))) (objectCount (inputOf (c .before .before .before .before .before .before .before .before .before .before .before .before .before .before .before .before)))
+unfolding badSpan badPart slotCount elementCount
+part c = c .first-copied-span .ensures ∙ ap (firstPlace (badSpan (inputOf (c .before .before .before .before .before .before .before .before .before .before .before .before .before .before .before .before)))) (c .before .before .before .before .before .before .before .before .before .before .before .before .before .before .before .before .pre .0)
+
+-- where there is no fault
+clean : (c : tie.After-n) → [] ≡ take 1 (badCopied (inputOf (c .before .before .before .before .before .before .before .before .before .before .before .before .before .before) .route))
 unfolding badCopied
-clean c = ap faultSays (sym (c .enum-told .given .1)) ∙ c .before .before .first-copied .ensures
+clean c = ap testedSays (sym (c .n .given .1)) ∙ c .before .before .first-copied .ensures .fault
+
+-- and then the number that is told is that of the codes
+same-held : {r : Tested} {n h : ℕ} → r ≡ Held n → heldSays r h ≡ h → 0 ∷ n ∷ [] ≡ 0 ∷ h ∷ []
+same-held e t = rw e at (ap (λ (k : ℕ). 0 ∷ k ∷ []) t)
 
 returns-3 : tie.Need-returns-3
 unfolding badCopied
 returns-3 c =
-    late-copied (inputOf (c .before .before .before .before .before .before .before .before .before .before .before .before .before .before .before)) (0 ∷ 0 ∷ []) (ap faultSays (sym (c .before .p .given .1)) ∙ c .before .before .before .first-copied .ensures)
+    late-copied (inputOf (c .before .before .before .before .before .before .before .before .before .before .before .before .before .before .before)) (told (c .before .before .before .before .before .before .before .before .before .before .before .before .before .before .before)) (ap testedSays (sym (c .before .p .given .1)) ∙ c .before .before .before .first-copied .ensures .fault)
 
 first-copied-span-requires : tie.Need-first-copied-span-requires
 first-copied-span-requires c κs =
-    let h = c .before .before .before .before .before .before .before .before .before .before .before .before .before .before .pre in
+    let h = c .before .before .before .before .before .before .before .before .before .before .before .before .before .before .before .pre in
     (h .1 .0 ∙ sym (h .0), (h .1 .1 .0 ∙ sym (h .0), (h .1 .1 .1 .0 ∙ sym (h .0), h .1 .1 .1 .1 .0)))
 
 returns : tie.Need-returns
 returns c =
-    late-span (inputOf (c .before .before .before .before .before .before .before .before .before .before .before .before .before .before .before .before)) (0 ∷ 0 ∷ []) (clean (c .before .before)) (part (c .before)) (c .if1 .taken)
+    late-span (inputOf (c .before .before .before .before .before .before .before .before .before .before .before .before .before .before .before .before .before)) (told (c .before .before .before .before .before .before .before .before .before .before .before .before .before .before .before .before .before)) (clean (c .before .before .before)) (part (c .before)) (c .if1 .taken)
 
 returns-2 : tie.Need-returns-2
 returns-2 c =
-    late-root (inputOf (c .before .before .before .before .before .before .before .before .before .before .before .before .before .before .before .before .before .before)) (0 ∷ 0 ∷ []) (clean (c .before .before .before .before)) (part (c .before .before .before)) (c .before .before .if1 .left) (c .before .first-root .ensures) (c .if2 .taken)
+    late-root (inputOf (c .before .before .before .before .before .before .before .before .before .before .before .before .before .before .before .before .before .before .before)) (told (c .before .before .before .before .before .before .before .before .before .before .before .before .before .before .before .before .before .before .before)) (clean (c .before .before .before .before .before)) (part (c .before .before .before)) (c .before .before .if1 .left) (c .before .first-root .ensures) (c .if2 .taken)
 
 returns-4 : tie.Need-returns-4
 returns-4 c =
-    late-none (inputOf (c .before .before .before .before .before .before .before .before .before .before .before .before .before .before .before .before .before .before)) (0 ∷ 0 ∷ []) (clean (c .before .before .before .before)) (part (c .before .before .before)) (c .before .before .if1 .left) (c .before .first-root .ensures) (c .if2 .left)
+    same-held (c .before .before .before .before .before .n .given .1) (c .before .before .before .before .before .before .before .first-copied .ensures .held)
+    ∙ late-none (inputOf (c .before .before .before .before .before .before .before .before .before .before .before .before .before .before .before .before .before .before .before)) (told (c .before .before .before .before .before .before .before .before .before .before .before .before .before .before .before .before .before .before .before)) (clean (c .before .before .before .before .before)) (part (c .before .before .before)) (c .before .before .if1 .left) (c .before .first-root .ensures) (c .if2 .left)
 
 pub judge-ids-spec : {M : Type 1} → statement M
 judge-ids-spec =

@@ -1,8 +1,8 @@
--- `build::least` meets its contract. Assumes nothing.
+-- `stages::least` meets its contract. Assumes nothing.
 use native.Mathlib.Omega.{arith}
 use borrow.Author.Needs.{needs}
-use Rattle.build.proofs.least.Statement.{statement}
-use Rattle.build.proofs.least.Tie as tie
+use Rattle.stages.proofs.least.Statement.{statement}
+use Rattle.stages.proofs.least.Tie as tie
 
 returns : tie.Need-returns
 returns c = (omega arith, omega arith)
