@@ -1,11 +1,11 @@
-//! The calls of the static library. Each stands here as it stands in `crates/yokefathom/src/lib.rt`, word for word: the macro makes of it
+//! The calls of the static library. Each stands here as it stands in `crates/yokefathom/src`, word for word: the macro makes of it
 //! the C declaration, in which a slice is a pointer and a length, and a safe function of the same name. It is safe because the Rattle
 //! function asks nothing of its caller but what the slices' types say.
 #![allow(clippy::too_many_arguments)]
 
 macro_rules! calls {
-    ($( $(#[$about:meta])* pub extern "C" fn $name:ident($($parameters:tt)*) )*) => {
-        $( call! { [$(#[$about])* $name] [] [] [] $($parameters)* } )*
+    ($( $(#[$about:meta])* pub extern "C" fn $name:ident($($parameters:tt)*) $(-> $result:ident)? )*) => {
+        $( call! { [$(#[$about])* $name $($result)?] [] [] [] $($parameters)* } )*
     };
 }
 
@@ -23,12 +23,12 @@ macro_rules! call {
     ($head:tt [$($c:tt)*] [$($safe:tt)*] [$($pass:tt)*] $p:ident: $t:ty, $($rest:tt)*) => {
         call! { $head [$($c)* $p: $t,] [$($safe)* $p: $t,] [$($pass)* $p,] $($rest)* }
     };
-    ([$(#[$about:meta])* $name:ident] [$($c:tt)*] [$($safe:tt)*] [$($pass:tt)*]) => {
+    ([$(#[$about:meta])* $name:ident $($result:ident)?] [$($c:tt)*] [$($safe:tt)*] [$($pass:tt)*]) => {
         $(#[$about])*
         #[inline]
-        pub(crate) fn $name($($safe)*) {
+        pub(crate) fn $name($($safe)*) $(-> $result)? {
             unsafe extern "C" {
-                fn $name($($c)*);
+                fn $name($($c)*) $(-> $result)?;
             }
             // SAFETY: every pointer comes with the length of the slice that it is of, and the call has no `requires`.
             unsafe { $name($($pass)*) }
@@ -316,4 +316,57 @@ calls! {
         escape_label: &[u32],
         answer: &mut [u64; 5],
     )
+
+    /// Where the edges of an object sit, by the short offsets alone.
+    pub extern "C" fn yokefathom_lean_span(
+        object: usize,
+        bases: &[u64],
+        short: &[u16],
+        codes: usize,
+        targets: usize,
+    ) -> u64
+
+    /// The exact label of an object's first edge to a target, without long offsets and escapes.
+    pub extern "C" fn yokefathom_lean_label_of(
+        object: usize,
+        target: u32,
+        bases: &[u64],
+        short: &[u16],
+        codes: &[u16],
+        targets: &[u32],
+        fields: &[u32],
+    ) -> u64
+
+    /// The target of a field of an object, without long offsets and escapes.
+    pub extern "C" fn yokefathom_lean_field(
+        object: usize,
+        label: u32,
+        bases: &[u64],
+        short: &[u16],
+        codes: &[u16],
+        targets: &[u32],
+        fields: &[u32],
+        table: &[u16],
+    ) -> u64
+
+    /// The target of a field of an object, or its smallest weak target, without long offsets and escapes.
+    pub extern "C" fn yokefathom_lean_referent(
+        object: usize,
+        label: u32,
+        bases: &[u64],
+        short: &[u16],
+        codes: &[u16],
+        targets: &[u32],
+        fields: &[u32],
+        table: &[u16],
+        weak_from: &[u32],
+        weak_to: &[u32],
+    ) -> u64
+
+    /// The label that a code says by itself, where `expected` is what the edge before left behind, and what is expected behind this one.
+    pub extern "C" fn yokefathom_lean_label(
+        code: u16,
+        expected: u32,
+        fields: &[u32],
+    ) -> u64
 }

@@ -97,6 +97,22 @@ fn value_or_none(answer: &[u64; 4]) -> Result<Option<u32>, Refusal> {
     Ok((answer[0] > 1).then_some(value as u32))
 }
 
+/// The answer of a call that goes by the short columns alone, 2 more than the value or 1 for nothing; of 0, the whole question's.
+#[inline]
+fn found(reply: u64, whole: impl FnOnce() -> Result<Option<u32>, Refusal>) -> Result<Option<u32>, Refusal> {
+    match reply {
+        0 => whole(),
+        1 => Ok(None),
+        _ => Ok(Some((reply - 2) as u32)),
+    }
+}
+
+/// The upper and the lower half of a number that is one more.
+#[inline]
+fn halves(number: u64) -> (u32, u32) {
+    (((number - 1) >> 32) as u32, (number - 1) as u32)
+}
+
 fn counts(answer: &[u64; 9]) -> Result<Counts, Refusal> {
     let values = values(answer)?;
     let at = |k: usize| values[k] as usize;
@@ -243,6 +259,16 @@ impl Graph {
     /// Where `object`'s edges sit in [`Graph::all_targets`].
     #[inline]
     pub fn span(&self, object: u32) -> Result<std::ops::Range<usize>, Refusal> {
+        let lean = ffi::yokefathom_lean_span(object as usize, &self.bases, &self.short, self.codes.len(), self.targets.len());
+        if lean == 0 {
+            return self.whole_span(object);
+        }
+        let (start, end) = halves(lean);
+        Ok(start as usize..end as usize)
+    }
+
+    #[cold]
+    fn whole_span(&self, object: u32) -> Result<std::ops::Range<usize>, Refusal> {
         let mut answer = [0; 4];
         ffi::yokefathom_span(
             object as usize, &self.bases, &self.short, &self.long_at, &self.long_value, &self.codes, &self.targets, &mut answer,
@@ -253,6 +279,16 @@ impl Graph {
     /// How many edges an object has.
     #[inline]
     pub fn degree(&self, object: u32) -> Result<usize, Refusal> {
+        let lean = ffi::yokefathom_lean_span(object as usize, &self.bases, &self.short, self.codes.len(), self.targets.len());
+        if lean == 0 {
+            return self.whole_degree(object);
+        }
+        let (start, end) = halves(lean);
+        Ok((end - start) as usize)
+    }
+
+    #[cold]
+    fn whole_degree(&self, object: u32) -> Result<usize, Refusal> {
         let mut answer = [0; 4];
         ffi::yokefathom_edge_count(
             object as usize, &self.bases, &self.short, &self.long_at, &self.long_value, &self.codes, &self.targets, &mut answer,
@@ -269,6 +305,14 @@ impl Graph {
     /// The target of `object`'s edge labelled `label`.
     #[inline]
     pub fn field(&self, object: u32, label: u32) -> Result<Option<u32>, Refusal> {
+        let reply = ffi::yokefathom_lean_field(
+            object as usize, label, &self.bases, &self.short, &self.codes, &self.targets, &self.fields, &self.table,
+        );
+        found(reply, || self.whole_field(object, label))
+    }
+
+    #[cold]
+    fn whole_field(&self, object: u32, label: u32) -> Result<Option<u32>, Refusal> {
         let mut answer = [0; 4];
         ffi::yokefathom_field(
             object as usize, label, &self.bases, &self.short, &self.long_at, &self.long_value, &self.codes, &self.targets,
@@ -280,6 +324,15 @@ impl Graph {
     /// The referent of a reference object, weak or strong: the field, or else the smallest weak target.
     #[inline]
     pub fn referent(&self, object: u32, label: u32) -> Result<Option<u32>, Refusal> {
+        let reply = ffi::yokefathom_lean_referent(
+            object as usize, label, &self.bases, &self.short, &self.codes, &self.targets, &self.fields, &self.table, &self.weak_from,
+            &self.weak_to,
+        );
+        found(reply, || self.whole_referent(object, label))
+    }
+
+    #[cold]
+    fn whole_referent(&self, object: u32, label: u32) -> Result<Option<u32>, Refusal> {
         let mut answer = [0; 4];
         ffi::yokefathom_referent(
             object as usize, label, &self.bases, &self.short, &self.long_at, &self.long_value, &self.codes, &self.targets,
@@ -291,6 +344,14 @@ impl Graph {
     /// The exact label of the first edge from one object to another.
     #[inline]
     pub fn label_of(&self, from: u32, to: u32) -> Result<Option<u32>, Refusal> {
+        let reply = ffi::yokefathom_lean_label_of(
+            from as usize, to, &self.bases, &self.short, &self.codes, &self.targets, &self.fields,
+        );
+        found(reply, || self.whole_label_of(from, to))
+    }
+
+    #[cold]
+    fn whole_label_of(&self, from: u32, to: u32) -> Result<Option<u32>, Refusal> {
         let mut answer = [0; 4];
         ffi::yokefathom_label_of(
             from as usize, to, &self.bases, &self.short, &self.long_at, &self.long_value, &self.codes, &self.targets, &self.fields,
@@ -443,18 +504,27 @@ impl<'a> Edges<'a> {
     /// `(target, label)` pairs, in order: each edge is read where the one before left off.
     #[inline]
     pub fn iter(&self) -> impl Iterator<Item = (u32, u32)> + use<'a> {
-        let (graph, object, span) = (self.graph, self.object, self.span.clone());
+        let edges = self.clone();
+        let codes = &self.graph.codes[self.span.clone()];
         let mut expected = 0;
-        (0..span.len()).map(move |k| {
-            let mut answer = [0; 5];
-            ffi::yokefathom_edge(
-                object as usize, span.start, span.end, k, expected, &graph.targets, &graph.codes, &graph.fields, &graph.escape_at,
-                &graph.escape_label, &mut answer,
-            );
-            let edge = values(&answer).expect("an edge of a built graph");
-            expected = edge[2] as u32;
-            (edge[0] as u32, edge[1] as u32)
+        self.targets().iter().zip(codes).enumerate().map(move |(k, (&target, &code))| {
+            let reply = ffi::yokefathom_lean_label(code, expected, &edges.graph.fields);
+            let label;
+            (expected, label) = if reply == 0 { edges.whole_label(k, expected) } else { halves(reply) };
+            (target, label)
         })
+    }
+
+    /// What is expected behind edge `k`, where those before it were read, and its label.
+    #[cold]
+    fn whole_label(&self, k: usize, expected: u32) -> (u32, u32) {
+        let (graph, span, mut answer) = (self.graph, &self.span, [0; 5]);
+        ffi::yokefathom_edge(
+            self.object as usize, span.start, span.end, k, expected, &graph.targets, &graph.codes, &graph.fields, &graph.escape_at,
+            &graph.escape_label, &mut answer,
+        );
+        let edge = values(&answer).expect("an edge of a built graph");
+        (edge[2] as u32, edge[1] as u32)
     }
 
     /// `(target, label)` pairs with every element's label just [`ARRAY_ELEMENT`].

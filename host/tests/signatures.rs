@@ -3,13 +3,14 @@ use std::collections::BTreeMap;
 use std::fs;
 use std::path::Path;
 
-/// Each exported function with its parameters, white space aside.
+/// Each exported function with its parameters and its result, white space and a last comma aside.
 fn exported(text: &str, into: &mut BTreeMap<String, String>) {
     for part in text.split("pub extern \"C\" fn ").skip(1) {
         let (name, rest) = part.split_once('(').expect("parameters");
-        let (parameters, _) = rest.split_once(')').expect("the end of the parameters");
+        let (parameters, rest) = rest.split_once(')').expect("the end of the parameters");
+        let result = rest.lines().next().unwrap_or_default().trim();
         if name.chars().all(|c| c.is_alphanumeric() || c == '_') {
-            into.insert(name.to_string(), parameters.split_whitespace().collect::<Vec<_>>().join(" "));
+            into.insert(name.to_string(), parameters.trim_end().trim_end_matches(',').split_whitespace().chain([result]).collect::<Vec<_>>().join(" "));
         }
     }
 }

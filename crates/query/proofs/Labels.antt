@@ -215,13 +215,13 @@ module _ (c : Columns) (o k : ℕ) where
 
 -- The exact label of the first edge to a target.
 module _ (c : Columns) (o t : ℕ) where
-  abbrev first : ℕ → ℕ → ℕ
+  abbrev pub first : ℕ → ℕ → ℕ
   first e n = firstPlace (goesTo (c .targets) e t) n
 
-  abbrev labelFrom : ℕ → ℕ → List ℕ
+  abbrev pub labelFrom : ℕ → ℕ → List ℕ
   labelFrom e n = cond (ltb (first e n) n) (orColumns o (exactBack (c .labels) e (first e n))) (0 ∷ [])
 
-  abbrev toward : List ℕ → List ℕ
+  abbrev pub toward : List ℕ → List ℕ
   toward says = cond (accepts says) (labelFrom (says ! 1) (says ! 2 - says ! 1)) says
 
   from-exists : (e n : ℕ) → eqb (labelFrom e n ! 0) 11 ≡ false
@@ -266,7 +266,8 @@ module _ (c : Columns) (o t : ℕ) where
   unfolding accepts
   toward-none l = ap toward (span-none c o l)
 
-  toward-labelled : Labelled o (spanIn c o) (toward (spanIn c o)) (labelOf c o t)
+  -- The answer that the first edge to the target gives keeps the promise.
+  pub toward-labelled : Labelled o (spanIn c o) (toward (spanIn c o)) (labelOf c o t)
   unfolding labelOf
   toward-labelled = record {
     refused = λ f. ap (λ (b : Bool). cond b (labelFrom (spanIn c o ! 1) (spanIn c o ! 2 - spanIn c o ! 1)) (spanIn c o)) f;

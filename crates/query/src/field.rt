@@ -41,7 +41,7 @@ fn slot(label: u32, places: usize) -> usize
 }
 
 // A label's code by the table, if the fields agree.
-fn code_of(fields: &[u32], table: &[u16], label: u32) -> u16
+pub fn code_of(fields: &[u32], table: &[u16], label: u32) -> u16
     ensures { λ r. ⌜ r ≡ codeIn (now (fields .entry)) (now (table .entry)) label ⌝ }
 {
     let at = slot(label, table.len());
@@ -61,7 +61,7 @@ fn code_of(fields: &[u32], table: &[u16], label: u32) -> u16
     code
 }
 
-fn first_element(codes: &[u16], start: usize, count: usize) -> Sought
+pub fn first_element(codes: &[u16], start: usize, count: usize) -> Sought
     requires { ⌜ start + count ≤ length (now codes) ⌝ }
     ensures { λ r. ⌜ r ≡ placed (elementAt (codedOf (now (codes .entry)) [] [] []) start) count ⌝ }
 {
@@ -76,7 +76,7 @@ fn first_element(codes: &[u16], start: usize, count: usize) -> Sought
     Sought::Nothing
 }
 
-fn first_code(codes: &[u16], start: usize, count: usize, code: u16) -> Sought
+pub fn first_code(codes: &[u16], start: usize, count: usize, code: u16) -> Sought
     requires { ⌜ start + count ≤ length (now codes) ⌝ }
     ensures { λ r. ⌜ r ≡ placed (codeAt (codedOf (now (codes .entry)) [] [] []) start code) count ⌝ }
 {
@@ -149,7 +149,7 @@ fn seek(
     first_code(codes, start, count, code)
 }
 
-fn target_at(targets: &[u32], edge: usize) -> u32
+pub fn target_at(targets: &[u32], edge: usize) -> u32
     requires { ⌜ edge < length (now targets) ⌝ }
     ensures { λ r. ⌜ r ≡ now (targets .entry) ! edge ⌝ }
 {
@@ -198,7 +198,7 @@ pub fn field(
 }
 
 // The first of an object's weak targets: pairs are sorted, so that it is the smallest.
-fn first_weak(short: &[u16], weak_from: &[u32], weak_to: &[u32], object: usize) -> Referent
+pub fn first_weak(short: &[u16], weak_from: &[u32], weak_to: &[u32], object: usize) -> Referent
     ensures { λ r. ⌜ referentSays r ≡ firstWeak (weakOf (length (now (short .entry))) (now («weak_from» .entry)) (now («weak_to» .entry)) object) (now («weak_to» .entry)) ⌝ }
 {
     let at = weak_referents(short, weak_from, weak_to, object);

@@ -53,7 +53,7 @@ fn exact_answer(label: EdgeLabel, object: usize) -> ExactLabel
     }
 }
 
-fn target_answer(label: EdgeLabel, object: usize) -> LabelOf
+pub fn target_answer(label: EdgeLabel, object: usize) -> LabelOf
     ensures { λ r. ⌜ labelOfSays r ≡ orColumns object (readSays label) ⌝ }
 {
     match label {
@@ -119,7 +119,7 @@ pub fn exact_label(
 }
 
 // The first of an object's edges that goes to a target; their number where none does.
-fn first_to(targets: &[u32], start: usize, count: usize, target: u32) -> usize
+pub fn first_to(targets: &[u32], start: usize, count: usize, target: u32) -> usize
     requires { ⌜ start + count ≤ length (now targets) ⌝ }
     ensures { λ r. ⌜ r ≡ firstPlace (goesTo (now (targets .entry)) start target) count ⌝ }
 {

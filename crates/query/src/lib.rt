@@ -34,7 +34,7 @@ fn within(start: u64, end: u64, codes: usize, targets: usize, object: usize) -> 
 }
 
 // From the two offsets of an object to its span.
-fn between(first: Offset, next: Offset, codes: usize, targets: usize, object: usize) -> Span
+pub fn between(first: Offset, next: Offset, codes: usize, targets: usize, object: usize) -> Span
     ensures { λ r. ⌜ spanSays r ≡ ended (offsetSays first) (offsetSays next) codes targets object ⌝ }
 {
     match first {

@@ -1,4 +1,5 @@
 // Answers as numbers, for a host: how many numbers document 01 gives an answer, those numbers, then zeros.
+use labels::EdgeLabel;
 use reader::NextEdge;
 use rows::Filled;
 use rules::Built;
@@ -12,10 +13,15 @@ use rules::Refusal;
 use rules::Span;
 use rules::WeakReferents;
 ghost use mathlib.Core.Path.{_≡_};
+ghost use mathlib.Core.Bool.{cond};
+ghost use mathlib.Core.List.{[], _∷_};
+ghost use Prim.Native.Nat.{_+_, _*_, _<_};
+ghost use lib.Dec.{ltb};
 ghost use Rattle.rules.specs.Types.{refusalSays, builtSays, spanSays, edgeCountSays, coarseSays, exactSays, labelOfSays, fieldSays, referentSays, weakSays};
 ghost use Rattle.reader.specs.Read.{nextSays};
 ghost use Rattle.rows.specs.Rows.{filledSays};
-ghost use Rattle.told.specs.Told.{told};
+ghost use Rattle.labels.specs.Reading.{readSays};
+ghost use Rattle.told.specs.Told.{told, spanNumber, replyOf, labelNext};
 
 fn refusal(f: Refusal) -> [u64; 9]
     ensures { λ r. ⌜ r ≡ told 9 (refusalSays f) ⌝ }
@@ -170,5 +176,84 @@ pub fn next_edge(a: NextEdge) -> [u64; 5]
         NextEdge::End => [1, 0, 0, 0, 0],
         NextEdge::Index(at) => [2, 11, at as u64, 0, 0],
         NextEdge::Columns(at) => [2, 12, at as u64, 0, 0],
+    }
+}
+
+// An answer in one number, for a host that reads it from a register.
+pub fn span_number(a: Span) -> u64
+    ensures { λ r. ⌜ r ≡ spanNumber (spanSays a) ⌝ }
+{
+    match a {
+        Span::Edges { start, end } => packed(start, end),
+        Span::Index(_) => 0,
+        Span::Columns(_) => 0,
+    }
+}
+
+fn packed(start: usize, end: usize) -> u64
+    ensures { λ r. ⌜ r ≡ spanNumber (0 ∷ start ∷ end ∷ []) ⌝ }
+{
+    if 4294967296 <= start {
+        return 0;
+    }
+    if 4294967295 <= end {
+        return 0;
+    }
+    start as u64 * 4294967296 + end as u64 + 1
+}
+
+pub fn field_reply(a: Field) -> u64
+    ensures { λ r. ⌜ r ≡ replyOf (fieldSays a) ⌝ }
+{
+    match a {
+        Field::Target(t) => columns::wide(t) + 2,
+        Field::Nothing => 1,
+        Field::Index(_) => 0,
+        Field::Columns(_) => 0,
+    }
+}
+
+pub fn referent_reply(a: Referent) -> u64
+    ensures { λ r. ⌜ r ≡ replyOf (referentSays a) ⌝ }
+{
+    match a {
+        Referent::Target(t) => columns::wide(t) + 2,
+        Referent::Nothing => 1,
+        Referent::Index(_) => 0,
+        Referent::Columns(_) => 0,
+    }
+}
+
+pub fn label_reply(a: LabelOf) -> u64
+    ensures { λ r. ⌜ r ≡ replyOf (labelOfSays a) ⌝ }
+{
+    match a {
+        LabelOf::Is(l) => columns::wide(l.0) + 2,
+        LabelOf::Nothing => 1,
+        LabelOf::Index(_) => 0,
+        LabelOf::Columns(_) => 0,
+    }
+}
+
+fn joined(next: u64, label: u64) -> u64
+    requires { ⌜ label < 4294967296 ⌝ }
+    ensures { λ r. ⌜ r ≡ cond (ltb next 4294967295) (next * 4294967296 + label + 1) 0 ⌝ }
+{
+    if 4294967295 <= next {
+        return 0;
+    }
+    next * 4294967296 + label + 1
+}
+
+// The label of one code, and the index that an element has behind it at least.
+pub fn code_reply(a: EdgeLabel, expected: u32) -> u64
+    ensures { λ r. ⌜ r ≡ labelNext expected (readSays a) ⌝ }
+{
+    match a {
+        EdgeLabel::Is(l) => {
+            let next = labels::code::after(l, expected);
+            joined(columns::wide(next), columns::wide(l))
+        }
+        EdgeLabel::Bad => 0,
     }
 }

@@ -8,8 +8,9 @@ ghost use Rattle.rules.specs.Questions.{exactOf, labelOf};
 ghost use Rattle.query.specs.Reading.{spanOf, countOf, weakOf};
 ghost use Rattle.query.specs.Labelled.{graphOf, spanIn, edgeAsked, coarseAt, Labelled};
 ghost use Rattle.query.specs.Sought.{fieldFound, referentFound};
+ghost use Rattle.lean.specs.Lean.{shortOf, leanOf, plainBack, labelFound};
 ghost use Rattle.reader.specs.Read.{nextOf};
-ghost use Rattle.told.specs.Told.{told};
+ghost use Rattle.told.specs.Told.{told, spanNumber, replyOf, labelNext};
 ghost use Rattle.yokefathom.specs.Calls.{heard};
 
 // Where the edges of an object sit in the target column.
@@ -279,4 +280,91 @@ pub extern "C" fn yokefathom_edge(
     );
     let says = told::next_edge(found);
     *answer = says;
+}
+
+// The questions by the short columns alone, in one number. Where that is 0 the call above is to be asked.
+#[no_mangle]
+pub extern "C" fn yokefathom_lean_span(
+    object: usize,
+    bases: &[u64],
+    short: &[u16],
+    codes: usize,
+    targets: usize,
+) -> u64
+    ensures { λ r. ⌜ r ≡ spanNumber (spanOf (shortOf (now (bases .entry)) (now (short .entry))) codes targets object) ⌝ }
+{
+    let found = lean::span(bases, short, codes, targets, object);
+    told::span_number(found)
+}
+
+#[no_mangle]
+pub extern "C" fn yokefathom_lean_label_of(
+    object: usize,
+    target: u32,
+    bases: &[u64],
+    short: &[u16],
+    codes: &[u16],
+    targets: &[u32],
+    fields: &[u32],
+) -> u64
+    ensures { λ r. ⌜ r ≡ replyOf (labelFound (leanOf (now (bases .entry)) (now (short .entry)) (now (codes .entry)) (now (targets .entry)) (now (fields .entry)) [] []) object target) ⌝ }
+{
+    let found = lean::label::label_of(bases, short, codes, targets, fields, object, target);
+    told::label_reply(found)
+}
+
+#[no_mangle]
+pub extern "C" fn yokefathom_lean_field(
+    object: usize,
+    label: u32,
+    bases: &[u64],
+    short: &[u16],
+    codes: &[u16],
+    targets: &[u32],
+    fields: &[u32],
+    table: &[u16],
+) -> u64
+    ensures { λ r. ⌜ r ≡ replyOf (fieldFound (leanOf (now (bases .entry)) (now (short .entry)) (now (codes .entry)) (now (targets .entry)) (now (fields .entry)) [] []) (now (table .entry)) object label) ⌝ }
+{
+    let found = lean::field::field(bases, short, codes, targets, fields, table, object, label);
+    told::field_reply(found)
+}
+
+#[no_mangle]
+pub extern "C" fn yokefathom_lean_referent(
+    object: usize,
+    label: u32,
+    bases: &[u64],
+    short: &[u16],
+    codes: &[u16],
+    targets: &[u32],
+    fields: &[u32],
+    table: &[u16],
+    weak_from: &[u32],
+    weak_to: &[u32],
+) -> u64
+    ensures { λ r. ⌜ r ≡ replyOf (referentFound (leanOf (now (bases .entry)) (now (short .entry)) (now (codes .entry)) (now (targets .entry)) (now (fields .entry)) (now («weak_from» .entry)) (now («weak_to» .entry))) (now (table .entry)) object label) ⌝ }
+{
+    let found = lean::field::referent(
+        bases,
+        short,
+        codes,
+        targets,
+        fields,
+        table,
+        weak_from,
+        weak_to,
+        object,
+        label,
+    );
+    told::referent_reply(found)
+}
+
+// The label that a code says by itself, where `expected` is what the edge before left behind, and what is expected behind this one.
+#[no_mangle]
+pub extern "C" fn yokefathom_lean_label(code: u16, expected: u32, fields: &[u32]) -> u64
+    ensures { λ r. ⌜ r ≡ labelNext expected (plainBack (now (fields .entry)) expected code) ⌝ }
+{
+    let found = lean::label::read_code(code, expected, fields);
+    told::code_reply(found, expected)
 }

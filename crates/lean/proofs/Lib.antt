@@ -1,0 +1,4 @@
+pub mod Plain
+pub mod Found
+pub mod Whole
+pub mod Built
