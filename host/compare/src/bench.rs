@@ -172,24 +172,31 @@ pub fn run(objects: u64) {
 /// The sizes of `growth`: each twice the one before.
 const SIZES: [u64; 4] = [250_000, 500_000, 1_000_000, 2_000_000];
 
-/// Time and peak memory of a build against the size of its input, targets at random.
+/// Time and peak memory of a build against the size of its input. Memory does not depend on where targets lie.
 pub fn growth() {
     midden::parallel::set_threads(1);
     println!("| Build | objects | references | ours, least ms | median | ns a reference | peak MB | original, least ms | median | ns a reference | peak MB |");
     println!("|---|---|---|---|---|---|---|---|---|---|---|");
-    for route in ROUTES {
-        for objects in SIZES {
-            let case = case(objects, false);
-            let references = case.codes.len();
-            let (mut our_times, mut their_times, ..) = builds(&case, route, 5);
-            drop(case);
-            let side = |times: &mut [f64], side: Side| {
-                let (least, median) = ends(times);
-                let peak = memory::peak(side, route, objects).map_or("not told".into(), |kilobytes| format!("{:.0}", kilobytes as f64 / 1024.0));
-                format!("{least:.1} | {median:.1} | {:.1} | {peak}", least * 1e6 / references as f64)
-            };
-            let (ours, theirs) = (side(&mut our_times, Side::Ours), side(&mut their_times, Side::Original));
-            println!("| {route:?} | {objects} | {references} | {ours} | {theirs} |");
+    for near in [false, true] {
+        for route in ROUTES {
+            for objects in SIZES {
+                grown(objects, route, near);
+            }
         }
     }
+}
+
+fn grown(objects: u64, route: Route, near: bool) {
+    let case = case(objects, near);
+    let references = case.codes.len();
+    let (mut our_times, mut their_times, ..) = builds(&case, route, 5);
+    drop(case);
+    let side = |times: &mut [f64], side: Side| {
+        let (least, median) = ends(times);
+        let peak = memory::peak(side, route, objects).map_or("not told".into(), |kilobytes| format!("{:.0}", kilobytes as f64 / 1024.0));
+        format!("{least:.1} | {median:.1} | {:.1} | {peak}", least * 1e6 / references as f64)
+    };
+    let (ours, theirs) = (side(&mut our_times, Side::Ours), side(&mut their_times, Side::Original));
+    let targets = if near { "near" } else { "at random" };
+    println!("| {route:?}, targets {targets} | {objects} | {references} | {ours} | {theirs} |");
 }
