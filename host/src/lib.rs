@@ -267,8 +267,10 @@ impl Graph {
         Ok(start as usize..end as usize)
     }
 
+    /// [`Graph::span`] by the whole question at once, whatever the short columns say: for the comparison.
     #[cold]
-    fn whole_span(&self, object: u32) -> Result<std::ops::Range<usize>, Refusal> {
+    #[doc(hidden)]
+    pub fn whole_span(&self, object: u32) -> Result<std::ops::Range<usize>, Refusal> {
         let mut answer = [0; 4];
         ffi::yokefathom_span(
             object as usize, &self.bases, &self.short, &self.long_at, &self.long_value, &self.codes, &self.targets, &mut answer,
@@ -287,8 +289,10 @@ impl Graph {
         Ok((end - start) as usize)
     }
 
+    /// [`Graph::degree`] by the whole question at once, whatever the short columns say: for the comparison.
     #[cold]
-    fn whole_degree(&self, object: u32) -> Result<usize, Refusal> {
+    #[doc(hidden)]
+    pub fn whole_degree(&self, object: u32) -> Result<usize, Refusal> {
         let mut answer = [0; 4];
         ffi::yokefathom_edge_count(
             object as usize, &self.bases, &self.short, &self.long_at, &self.long_value, &self.codes, &self.targets, &mut answer,
@@ -311,8 +315,10 @@ impl Graph {
         found(reply, || self.whole_field(object, label))
     }
 
+    /// [`Graph::field`] by the whole question at once, whatever the short columns say: for the comparison.
     #[cold]
-    fn whole_field(&self, object: u32, label: u32) -> Result<Option<u32>, Refusal> {
+    #[doc(hidden)]
+    pub fn whole_field(&self, object: u32, label: u32) -> Result<Option<u32>, Refusal> {
         let mut answer = [0; 4];
         ffi::yokefathom_field(
             object as usize, label, &self.bases, &self.short, &self.long_at, &self.long_value, &self.codes, &self.targets,
@@ -331,8 +337,10 @@ impl Graph {
         found(reply, || self.whole_referent(object, label))
     }
 
+    /// [`Graph::referent`] by the whole question at once, whatever the short columns say: for the comparison.
     #[cold]
-    fn whole_referent(&self, object: u32, label: u32) -> Result<Option<u32>, Refusal> {
+    #[doc(hidden)]
+    pub fn whole_referent(&self, object: u32, label: u32) -> Result<Option<u32>, Refusal> {
         let mut answer = [0; 4];
         ffi::yokefathom_referent(
             object as usize, label, &self.bases, &self.short, &self.long_at, &self.long_value, &self.codes, &self.targets,
@@ -350,8 +358,10 @@ impl Graph {
         found(reply, || self.whole_label_of(from, to))
     }
 
+    /// [`Graph::label_of`] by the whole question at once, whatever the short columns say: for the comparison.
     #[cold]
-    fn whole_label_of(&self, from: u32, to: u32) -> Result<Option<u32>, Refusal> {
+    #[doc(hidden)]
+    pub fn whole_label_of(&self, from: u32, to: u32) -> Result<Option<u32>, Refusal> {
         let mut answer = [0; 4];
         ffi::yokefathom_label_of(
             from as usize, to, &self.bases, &self.short, &self.long_at, &self.long_value, &self.codes, &self.targets, &self.fields,

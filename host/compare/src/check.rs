@@ -88,6 +88,8 @@ pub fn ask_field(ours: &Graph, theirs: &original::Graph, names: usize, object: u
     let refused = |e: Refusal| format!("field {object} {label}: {e}");
     tally.questions += 2;
     let (field, referent) = (ours.field(object, label).map_err(refused)?, ours.referent(object, label).map_err(refused)?);
+    same("field, the whole question", ours.whole_field(object, label), Ok(field))?;
+    same("referent, the whole question", ours.whole_referent(object, label), Ok(referent))?;
     if label as usize == names {
         tally.name_count += 1;
         same("field of the name count", field, None)?;
@@ -100,6 +102,7 @@ pub fn ask_field(ours: &Graph, theirs: &original::Graph, names: usize, object: u
 pub fn ask_label(ours: &Graph, theirs: &original::Graph, object: u32, target: u32, tally: &mut Tally) -> Outcome {
     tally.questions += 1;
     let found = ours.label_of(object, target).map_err(|e| e.to_string())?;
+    same("label_of, the whole question", ours.whole_label_of(object, target), Ok(found))?;
     same(&format!("label_of {object} {target}"), found, theirs.label_of(object, target))
 }
 
@@ -108,11 +111,13 @@ pub fn ask_edges(ours: &Graph, theirs: &original::Graph, object: u32, random: &m
     let refused = |e: Refusal| format!("object {object}: {e}");
     tally.questions += 5;
     same("span", ours.span(object).map_err(refused)?, theirs.span(object))?;
+    same("span, the whole question", ours.whole_span(object), Ok(theirs.span(object)))?;
     let weak: Vec<u32> = theirs.weak_referents(object).collect();
     same("weak referents", ours.weak_referents(object).map_err(refused)?, weak.as_slice())?;
     let (our, their) = (ours.edges(object).map_err(refused)?, theirs.edges(object));
     same("length", our.len(), their.len())?;
     same("degree", ours.degree(object), Ok(their.len()))?;
+    same("degree, the whole question", ours.whole_degree(object), Ok(their.len()))?;
     same("edges", our.iter().collect::<Vec<_>>(), their.iter().collect::<Vec<_>>())?;
     for k in 0..their.len() {
         if their.len() > 100 && !random.chance(their.len() as u64 / 20) {
