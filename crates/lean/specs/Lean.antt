@@ -26,7 +26,7 @@ plainBack fields n c = codeBack fields [] [] 0 n c
 abbrev pub leanOf : List ℕ → List ℕ → List ℕ → List ℕ → List ℕ → List ℕ → List ℕ → Columns
 leanOf bases short codes targets fields weakFrom weakTo = graphOf bases short [] [] codes targets fields [] [] weakFrom weakTo
 
--- The exact label of an object's first edge to a target: "label_of gives the label of the first edge to the target, or nothing".
+-- "`label_of` gives the exact label of the first edge to a target; a target that is no object is not found."
 unfoldable pub labelFound : Columns → ℕ → ℕ → List ℕ
 labelFound c o t =
     let s = spanIn c o in
