@@ -10,8 +10,8 @@ use Rattle.columns.proofs.Lists.{lt-or-ge}
 use Rattle.rules.specs.Needs.{Lent}
 use Rattle.rules.specs.Built.{CodedLeft}
 use Rattle.labels.specs.Fields.{Naming}
-use Rattle.buffers.specs.Stages.{Ready}
-use Rattle.coding.specs.Finished.{Coding, Hands, Finished}
+use Rattle.code_stages.specs.Stages.{Ready}
+use Rattle.code_columns.specs.Finished.{Coding, Hands, Finished}
 
 -- as many as there are, or all
 pub take-least : (xs : List ℕ) (a : ℕ) {r : ℕ} → r ≡ min a (length xs) → take r xs ≡ take a xs

@@ -20,12 +20,12 @@ use Rattle.rules.proofs.Acceptance.{Passed}
 use Rattle.rules.proofs.Laid.{build-meets, objects-are}
 use Rattle.rules.proofs.Passes.{edges-few}
 use Rattle.rules.proofs.Used.{refused-coded}
-use Rattle.buffers.specs.Stages.{handOn, Ready}
-use Rattle.coding.proofs.Readying.{ready-parts}
-use Rattle.coding.specs.Finished.{Coding, Hands, Finished, namingOf, plainCounts}
-use Rattle.stages.specs.Stages.{kept, edgeSays, early, plain, leftOf, roomsOf, Laid}
-use Rattle.stages.proofs.Compose.{built-left, edge-accepts, edge-passed}
-use Rattle.laying.specs.Laying.{Laying}
+use Rattle.code_stages.specs.Stages.{handOn, Ready}
+use Rattle.code_columns.proofs.Readying.{ready-parts}
+use Rattle.code_columns.specs.Finished.{Coding, Hands, Finished, namingOf, plainCounts}
+use Rattle.build_rooms.specs.Stages.{kept, edgeSays, early, plain, leftOf, roomsOf, Laid}
+use Rattle.build_rooms.proofs.Compose.{built-left, edge-accepts, edge-passed}
+use Rattle.build_edges.specs.Laying.{Laying}
 use Rattle.build.specs.Build.{offsetsUsed, labelsUsed, Rest}
 
 offsets-count : (x : Input) → length (graph x .offsets) ≡ objectCount x + 1

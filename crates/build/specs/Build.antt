@@ -5,9 +5,9 @@ use lib.ListN.{take}
 use Rattle.rules.specs.Needs.{Lent}
 use Rattle.rules.specs.Built.{CodedLeft}
 use Rattle.labels.specs.Fields.{Naming}
-use Rattle.coding.specs.Stages.{Ready, Where}
-use Rattle.coding.specs.Finished.{Coding}
-use Rattle.stages.specs.Stages.{kept, Settled}
+use Rattle.code_columns.specs.Stages.{Ready, Where}
+use Rattle.code_columns.specs.Finished.{Coding}
+use Rattle.build_rooms.specs.Stages.{kept, Settled}
 
 -- the offsets of so many objects, and the labels of so many edges as an answer says, at the fronts of the work columns
 abbrev pub offsetsUsed : ℕ → List ℕ → List ℕ

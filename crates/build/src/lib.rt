@@ -7,10 +7,10 @@ ghost use lib.ListN.{length};
 ghost use Rattle.rules.specs.Types.{builtSays};
 ghost use Rattle.rules.specs.Built.{buildLeft};
 ghost use Rattle.labels.specs.Fields.{naming};
-ghost use Rattle.coding.specs.Finished.{Coding, lentOf};
-ghost use Rattle.coding.specs.Finished.{leftOf as codedOf};
-ghost use Rattle.checks.specs.Flat.{copiedInput, rawInput};
-ghost use Rattle.stages.specs.Stages.{leftOf, roomsOf};
+ghost use Rattle.code_columns.specs.Finished.{Coding, lentOf};
+ghost use Rattle.code_columns.specs.Finished.{leftOf as codedOf};
+ghost use Rattle.check_input.specs.Flat.{copiedInput, rawInput};
+ghost use Rattle.build_rooms.specs.Stages.{leftOf, roomsOf};
 ghost use Rattle.build.specs.Build.{offsetsUsed, labelsUsed, Asked, Rest};
 
 // As many of a column's numbers as there are: `more` and one, or all.
@@ -51,8 +51,8 @@ fn code_used(
     ensures { λ r. ⌜ Coding (naming (now («slot_starts» .entry)) (now («slot_ends» .entry)) (now («static_starts» .entry)) (now («static_ends» .entry)) (now («slot_labels» .entry)) (now («static_names» .entry)) (now («static_types» .entry))) classes names (offsetsUsed objects (now (working .entry))) (labelsUsed (builtSays v) (now (labels .entry))) (builtSays v) (lentOf (length (now (bases .entry))) (length (now (short .entry))) (length (now («long_at» .entry))) (length (now («long_value» .entry))) (length (now (fields .entry))) (length (now (table .entry))) (length (now («escape_at» .entry))) (length (now («escape_label» .entry))) (length (now («edge_codes» .entry))) (length (now (counting .entry))) (length (now (ranking .entry)))) (builtSays r) (codedOf (now (bases .exit)) (now (short .exit)) (now («long_at» .exit)) (now («long_value» .exit)) (now (fields .exit)) (now (table .exit)) (now («escape_at» .exit)) (now («escape_label» .exit)) (now («edge_codes» .exit)) (now (counting .exit)) (now (ranking .exit))) ⌝ }
 {
     let n = up_to(objects, working.len());
-    let m = stages::least(stages::edges_kept(v), labels.len());
-    coding::code_parts(
+    let m = build_rooms::least(build_rooms::edges_kept(v), labels.len());
+    code_columns::code_parts(
         v,
         classes,
         slot_starts,
@@ -140,7 +140,7 @@ fn finish(
         counting,
         ranking,
     );
-    stages::settle(
+    build_rooms::settle(
         r,
         targets,
         labels,
@@ -202,7 +202,7 @@ fn hinted_copied(
 ) -> Built
     ensures { λ r. ⌜ leftOf (builtSays r) (now (targets .exit)) (now (labels .exit)) (now («weak_from» .exit)) (now («weak_to» .exit)) (now («roots_out» .exit)) (now (working .exit)) (codedOf (now (bases .exit)) (now (short .exit)) (now («long_at» .exit)) (now («long_value» .exit)) (now (fields .exit)) (now (table .exit)) (now («escape_at» .exit)) (now («escape_label» .exit)) (now («edge_codes» .exit)) (now (counting .exit)) (now (ranking .exit))) (now (account .exit)) ≡ buildLeft (copiedInput (now (ids .entry)) (now (kinds .entry)) (now (classes .entry)) (now (lengths .entry)) (now («class_ids» .entry)) (now (loaders .entry)) (now (dumped .entry)) (now («class_kinds» .entry)) (now («slot_starts» .entry)) (now («slot_ends» .entry)) (now («static_starts» .entry)) (now («static_ends» .entry)) (now («slot_offsets» .entry)) (now («slot_labels» .entry)) (now («slot_weak» .entry)) (now («static_names» .entry)) (now («static_types» .entry)) (now («static_values» .entry)) names (now (codes .entry)) (now («escape_places» .entry)) (now («escape_ids» .entry)) base (now (starts .entry)) (now (roots .entry)) policy) (roomsOf (length (now (targets .entry))) (length (now (labels .entry))) (length (now («weak_from» .entry))) (length (now («weak_to» .entry))) (length (now («roots_out» .entry))) (length (now (working .entry))) (lentOf (length (now (bases .entry))) (length (now (short .entry))) (length (now («long_at» .entry))) (length (now («long_value» .entry))) (length (now (fields .entry))) (length (now (table .entry))) (length (now («escape_at» .entry))) (length (now («escape_label» .entry))) (length (now («edge_codes» .entry))) (length (now (counting .entry))) (length (now (ranking .entry))))) ⌝ }
 {
-    let v = laying::lay_copied(
+    let v = build_edges::lay_copied(
         ids,
         kinds,
         classes,
@@ -418,7 +418,7 @@ fn hinted_raw(
 ) -> Built
     ensures { λ r. ⌜ leftOf (builtSays r) (now (targets .exit)) (now (labels .exit)) (now («weak_from» .exit)) (now («weak_to» .exit)) (now («roots_out» .exit)) (now (working .exit)) (codedOf (now (bases .exit)) (now (short .exit)) (now («long_at» .exit)) (now («long_value» .exit)) (now (fields .exit)) (now (table .exit)) (now («escape_at» .exit)) (now («escape_label» .exit)) (now («edge_codes» .exit)) (now (counting .exit)) (now (ranking .exit))) (now (account .exit)) ≡ buildLeft (rawInput (now (ids .entry)) (now (kinds .entry)) (now (classes .entry)) (now (lengths .entry)) (now («class_ids» .entry)) (now (loaders .entry)) (now (dumped .entry)) (now («class_kinds» .entry)) (now («slot_starts» .entry)) (now («slot_ends» .entry)) (now («static_starts» .entry)) (now («static_ends» .entry)) (now («slot_offsets» .entry)) (now («slot_labels» .entry)) (now («slot_weak» .entry)) (now («static_names» .entry)) (now («static_types» .entry)) (now («static_values» .entry)) names (now (bytes .entry)) size (now (starts .entry)) (now (bodies .entry)) (now (roots .entry)) policy) (roomsOf (length (now (targets .entry))) (length (now (labels .entry))) (length (now («weak_from» .entry))) (length (now («weak_to» .entry))) (length (now («roots_out» .entry))) (length (now (working .entry))) (lentOf (length (now (bases .entry))) (length (now (short .entry))) (length (now («long_at» .entry))) (length (now («long_value» .entry))) (length (now (fields .entry))) (length (now (table .entry))) (length (now («escape_at» .entry))) (length (now («escape_label» .entry))) (length (now («edge_codes» .entry))) (length (now (counting .entry))) (length (now (ranking .entry))))) ⌝ }
 {
-    let v = laying::lay_raw(
+    let v = build_edges::lay_raw(
         ids,
         kinds,
         classes,

@@ -1,6 +1,6 @@
 // The line of an object: its span, its edges by the reader of the coded columns, and its weak targets.
 use crate::column;
-use reader::NextEdge;
+use ask_edges::NextEdge;
 use rules::Label;
 use rules::Span;
 use rules::WeakReferents;
@@ -91,7 +91,7 @@ fn edges(
     let mut expected = 0;
     let mut k = 0;
     while k < codes.len() {
-        match reader::edge_of(
+        match ask_edges::edge_of(
             targets,
             codes,
             fields,
@@ -181,9 +181,12 @@ pub(crate) fn object(
 ) {
     print::word(b"  object ");
     print::number(o as u64);
-    let at = query::span(bases, short, long_at, long_value, codes, targets, o);
+    let at = ask_graph::span(bases, short, long_at, long_value, codes, targets, o);
     show_span(at);
     print::word(b" edges");
     edges(targets, codes, fields, escape_at, escape_label, at, o);
-    show_weak(weak_to, query::weak_referents(short, weak_from, weak_to, o));
+    show_weak(
+        weak_to,
+        ask_graph::weak_referents(short, weak_from, weak_to, o),
+    );
 }

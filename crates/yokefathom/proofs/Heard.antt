@@ -10,8 +10,8 @@ use Rattle.rules.specs.declared.ExactLabel.the-variants as ExactLabel
 use Rattle.rules.specs.declared.LabelOf.{LabelOf}
 use Rattle.rules.specs.declared.LabelOf.the-variants as LabelOf
 use Rattle.rules.specs.Types.{exactSays, labelOfSays}
-use Rattle.query.specs.Labelled.{Labelled}
-use Rattle.told.specs.Told.{told}
+use Rattle.ask_graph.specs.Labelled.{Labelled}
+use Rattle.answer_numbers.specs.Told.{told}
 use Rattle.yokefathom.specs.Calls.{heard}
 
 pub exact-heard : (a : ExactLabel) → heard (told 4 (exactSays a)) ≡ exactSays a

@@ -3,12 +3,12 @@ use Prim.Native.Nat.{ℕ}
 use mathlib.Core.Path.{_≡_, sym, ap, _∙_}
 use mathlib.Core.List.{List}
 use Rattle.rules.specs.Built.{CodedLeft, BuildLeft, PartsLeft}
-use Rattle.stages.specs.Stages.{leftOf}
-use Rattle.handed.specs.Parts.{leftAs}
-use Rattle.told.specs.Told.{told}
-use Rattle.rows.specs.declared.SlotRow.{SlotRow}
-use Rattle.rows.specs.declared.Filled.{Filled}
-use Rattle.rows.specs.Rows.{filledSays, left, Filling}
+use Rattle.build_rooms.specs.Stages.{leftOf}
+use Rattle.from_parts.specs.Parts.{leftAs}
+use Rattle.answer_numbers.specs.Told.{told}
+use Rattle.slot_rows.specs.declared.SlotRow.{SlotRow}
+use Rattle.slot_rows.specs.declared.Filled.{Filled}
+use Rattle.slot_rows.specs.Rows.{filledSays, left, Filling}
 use Rattle.yokefathom.specs.Calls.{BuildTold, PartsTold, SlotsTold}
 
 pub build-told : {left : BuildLeft} {says answer ts ls fs ws rs wk : List ℕ} {coded : CodedLeft} {a : List (List ℕ)} → answer ≡ told 9 says → leftOf says ts ls fs ws rs wk coded a ≡ left → BuildTold left answer ts ls fs ws rs wk coded a

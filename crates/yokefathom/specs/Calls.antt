@@ -7,9 +7,9 @@ use lib.ListN.{take, drop}
 use Rattle.columns.specs.Lists.{_!_}
 use Rattle.rules.specs.declared.ReferencePolicy.{ReferencePolicy}
 use Rattle.rules.specs.Built.{CodedLeft, BuildLeft, PartsLeft, SlotsLeft}
-use Rattle.stages.specs.Stages.{leftOf}
-use Rattle.handed.specs.Parts.{leftAs}
-use Rattle.told.specs.Told.{told}
+use Rattle.build_rooms.specs.Stages.{leftOf}
+use Rattle.from_parts.specs.Parts.{leftAs}
+use Rattle.answer_numbers.specs.Told.{told}
 
 -- the answer's numbers among those that go out
 unfoldable pub heard : List ℕ → List ℕ

@@ -3,10 +3,10 @@ use rules::ReferencePolicy;
 ghost use mathlib.Core.Path.{_≡_};
 ghost use lib.ListN.{length};
 ghost use Rattle.rules.specs.Built.{buildLeft};
-ghost use Rattle.coding.specs.Finished.{lentOf};
-ghost use Rattle.coding.specs.Finished.{leftOf as codedOf};
-ghost use Rattle.checks.specs.Flat.{copiedInput, rawInput};
-ghost use Rattle.stages.specs.Stages.{roomsOf};
+ghost use Rattle.code_columns.specs.Finished.{lentOf};
+ghost use Rattle.code_columns.specs.Finished.{leftOf as codedOf};
+ghost use Rattle.check_input.specs.Flat.{copiedInput, rawInput};
+ghost use Rattle.build_rooms.specs.Stages.{roomsOf};
 ghost use Rattle.yokefathom.specs.Calls.{policyOf, BuildTold};
 
 // The graph of an input by the copied route, in the columns lent, with its account; or a refusal, and all of them zero.
@@ -110,7 +110,7 @@ pub extern "C" fn yokefathom_build_copied(
         counting,
         ranking,
     );
-    let says = told::built(built);
+    let says = answer_numbers::built(built);
     *answer = says;
 }
 
@@ -213,6 +213,6 @@ pub extern "C" fn yokefathom_build_raw(
         counting,
         ranking,
     );
-    let says = told::built(built);
+    let says = answer_numbers::built(built);
     *answer = says;
 }

@@ -2,9 +2,9 @@
 ghost use mathlib.Core.Path.{_≡_};
 ghost use lib.ListN.{length};
 ghost use Rattle.rules.specs.Built.{partsLeft};
-ghost use Rattle.input.specs.Lengths.{schemaOf};
-ghost use Rattle.coding.specs.Finished.{lentOf, leftOf};
-ghost use Rattle.handed.specs.Parts.{partsOf};
+ghost use Rattle.check_tables.specs.Lengths.{schemaOf};
+ghost use Rattle.code_columns.specs.Finished.{lentOf, leftOf};
+ghost use Rattle.from_parts.specs.Parts.{partsOf};
 ghost use Rattle.yokefathom.specs.Calls.{PartsTold};
 
 // The coded columns of the graph whose plain columns these are, with the used lengths; or the refusal, and all of them zero.
@@ -47,7 +47,7 @@ pub extern "C" fn yokefathom_from_parts(
 )
     ensures { λ _. ⌜ PartsTold (partsLeft (schemaOf (now («class_ids» .entry)) (now (loaders .entry)) (now (dumped .entry)) (now («class_kinds» .entry)) (now («slot_starts» .entry)) (now («slot_ends» .entry)) (now («static_starts» .entry)) (now («static_ends» .entry)) (now («slot_offsets» .entry)) (now («slot_labels» .entry)) (now («slot_weak» .entry)) (now («static_names» .entry)) (now («static_types» .entry)) (now («static_values» .entry)) names) (partsOf (now (offsets .entry)) (now (targets .entry)) (now (labels .entry)) (now («weak_from» .entry)) (now («weak_to» .entry)) (now (roots .entry)) dangling) (lentOf (length (now (bases .entry))) (length (now (short .entry))) (length (now («long_at» .entry))) (length (now («long_value» .entry))) (length (now (fields .entry))) (length (now (table .entry))) (length (now («escape_at» .entry))) (length (now («escape_label» .entry))) (length (now (codes .entry))) (length (now (counting .entry))) (length (now (ranking .entry))))) (now (answer .exit)) (leftOf (now (bases .exit)) (now (short .exit)) (now («long_at» .exit)) (now («long_value» .exit)) (now (fields .exit)) (now (table .exit)) (now («escape_at» .exit)) (now («escape_label» .exit)) (now (codes .exit)) (now (counting .exit)) (now (ranking .exit))) ⌝ }
 {
-    let built = handed::from_parts(
+    let built = from_parts::from_parts(
         class_ids,
         loaders,
         dumped,
@@ -82,6 +82,6 @@ pub extern "C" fn yokefathom_from_parts(
         counting,
         ranking,
     );
-    let says = told::built(built);
+    let says = answer_numbers::built(built);
     *answer = says;
 }

@@ -5,12 +5,12 @@ ghost use mathlib.Core.List.{[], _∷_};
 ghost use lib.ListN.{length};
 ghost use Rattle.store.specs.Blocked.{blockedOf};
 ghost use Rattle.rules.specs.Questions.{exactOf, labelOf};
-ghost use Rattle.query.specs.Reading.{spanOf, countOf, weakOf};
-ghost use Rattle.query.specs.Labelled.{graphOf, spanIn, edgeAsked, coarseAt, Labelled};
-ghost use Rattle.query.specs.Sought.{fieldFound, referentFound};
-ghost use Rattle.lean.specs.Lean.{shortOf, leanOf, plainBack, labelFound};
-ghost use Rattle.reader.specs.Read.{nextOf};
-ghost use Rattle.told.specs.Told.{told, spanNumber, replyOf, labelNext};
+ghost use Rattle.ask_graph.specs.Reading.{spanOf, countOf, weakOf};
+ghost use Rattle.ask_graph.specs.Labelled.{graphOf, spanIn, edgeAsked, coarseAt, Labelled};
+ghost use Rattle.ask_graph.specs.Sought.{fieldFound, referentFound};
+ghost use Rattle.ask_short.specs.Lean.{shortOf, leanOf, plainBack, labelFound};
+ghost use Rattle.ask_edges.specs.Read.{nextOf};
+ghost use Rattle.answer_numbers.specs.Told.{told, spanNumber, replyOf, labelNext};
 ghost use Rattle.yokefathom.specs.Calls.{heard};
 
 // Where the edges of an object sit in the target column.
@@ -27,8 +27,8 @@ pub extern "C" fn yokefathom_span(
 )
     ensures { λ _. ⌜ now (answer .exit) ≡ told 4 (spanOf (blockedOf (now (bases .entry)) (now (short .entry)) (now («long_at» .entry)) (now («long_value» .entry))) (length (now (codes .entry))) (length (now (targets .entry))) object) ⌝ }
 {
-    let found = query::span(bases, short, long_at, long_value, codes, targets, object);
-    let says = told::span(found);
+    let found = ask_graph::span(bases, short, long_at, long_value, codes, targets, object);
+    let says = answer_numbers::span(found);
     *answer = says;
 }
 
@@ -46,8 +46,8 @@ pub extern "C" fn yokefathom_edge_count(
 )
     ensures { λ _. ⌜ now (answer .exit) ≡ told 4 (countOf (spanOf (blockedOf (now (bases .entry)) (now (short .entry)) (now («long_at» .entry)) (now («long_value» .entry))) (length (now (codes .entry))) (length (now (targets .entry))) object)) ⌝ }
 {
-    let found = query::edge_count(bases, short, long_at, long_value, codes, targets, object);
-    let says = told::edge_count(found);
+    let found = ask_graph::edge_count(bases, short, long_at, long_value, codes, targets, object);
+    let says = answer_numbers::edge_count(found);
     *answer = says;
 }
 
@@ -62,8 +62,8 @@ pub extern "C" fn yokefathom_weak_referents(
 )
     ensures { λ _. ⌜ now (answer .exit) ≡ told 4 (weakOf (length (now (short .entry))) (now («weak_from» .entry)) (now («weak_to» .entry)) object) ⌝ }
 {
-    let found = query::weak_referents(short, weak_from, weak_to, object);
-    let says = told::weak_referents(found);
+    let found = ask_graph::weak_referents(short, weak_from, weak_to, object);
+    let says = answer_numbers::weak_referents(found);
     *answer = says;
 }
 
@@ -85,7 +85,7 @@ pub extern "C" fn yokefathom_coarse_label(
 )
     ensures { λ _. ⌜ now (answer .exit) ≡ told 4 (coarseAt (graphOf (now (bases .entry)) (now (short .entry)) (now («long_at» .entry)) (now («long_value» .entry)) (now (codes .entry)) (now (targets .entry)) (now (fields .entry)) (now («escape_at» .entry)) (now («escape_label» .entry)) [] []) object edge) ⌝ }
 {
-    let found = query::label::coarse_label(
+    let found = ask_graph::label::coarse_label(
         bases,
         short,
         long_at,
@@ -98,7 +98,7 @@ pub extern "C" fn yokefathom_coarse_label(
         object,
         edge,
     );
-    let says = told::coarse_label(found);
+    let says = answer_numbers::coarse_label(found);
     *answer = says;
 }
 
@@ -120,7 +120,7 @@ pub extern "C" fn yokefathom_exact_label(
 )
     ensures { λ _. ⌜ (now (answer .exit) ≡ told 4 (heard (now (answer .exit)))) × Labelled object (edgeAsked (spanIn (graphOf (now (bases .entry)) (now (short .entry)) (now («long_at» .entry)) (now («long_value» .entry)) (now (codes .entry)) (now (targets .entry)) (now (fields .entry)) (now («escape_at» .entry)) (now («escape_label» .entry)) [] []) object) edge) (heard (now (answer .exit))) (exactOf (graphOf (now (bases .entry)) (now (short .entry)) (now («long_at» .entry)) (now («long_value» .entry)) (now (codes .entry)) (now (targets .entry)) (now (fields .entry)) (now («escape_at» .entry)) (now («escape_label» .entry)) [] []) object edge) ⌝ }
 {
-    let found = query::label::exact_label(
+    let found = ask_graph::label::exact_label(
         bases,
         short,
         long_at,
@@ -133,7 +133,7 @@ pub extern "C" fn yokefathom_exact_label(
         object,
         edge,
     );
-    let says = told::exact_label(found);
+    let says = answer_numbers::exact_label(found);
     *answer = says;
 }
 
@@ -155,7 +155,7 @@ pub extern "C" fn yokefathom_label_of(
 )
     ensures { λ _. ⌜ (now (answer .exit) ≡ told 4 (heard (now (answer .exit)))) × Labelled object (spanIn (graphOf (now (bases .entry)) (now (short .entry)) (now («long_at» .entry)) (now («long_value» .entry)) (now (codes .entry)) (now (targets .entry)) (now (fields .entry)) (now («escape_at» .entry)) (now («escape_label» .entry)) [] []) object) (heard (now (answer .exit))) (labelOf (graphOf (now (bases .entry)) (now (short .entry)) (now («long_at» .entry)) (now («long_value» .entry)) (now (codes .entry)) (now (targets .entry)) (now (fields .entry)) (now («escape_at» .entry)) (now («escape_label» .entry)) [] []) object target) ⌝ }
 {
-    let found = query::label::label_of(
+    let found = ask_graph::label::label_of(
         bases,
         short,
         long_at,
@@ -168,7 +168,7 @@ pub extern "C" fn yokefathom_label_of(
         object,
         target,
     );
-    let says = told::label_of(found);
+    let says = answer_numbers::label_of(found);
     *answer = says;
 }
 
@@ -191,7 +191,7 @@ pub extern "C" fn yokefathom_field(
 )
     ensures { λ _. ⌜ now (answer .exit) ≡ told 4 (fieldFound (graphOf (now (bases .entry)) (now (short .entry)) (now («long_at» .entry)) (now («long_value» .entry)) (now (codes .entry)) (now (targets .entry)) (now (fields .entry)) (now («escape_at» .entry)) (now («escape_label» .entry)) [] []) (now (table .entry)) object label) ⌝ }
 {
-    let found = query::field::field(
+    let found = ask_graph::field::field(
         bases,
         short,
         long_at,
@@ -205,7 +205,7 @@ pub extern "C" fn yokefathom_field(
         object,
         label,
     );
-    let says = told::field(found);
+    let says = answer_numbers::field(found);
     *answer = says;
 }
 
@@ -230,7 +230,7 @@ pub extern "C" fn yokefathom_referent(
 )
     ensures { λ _. ⌜ now (answer .exit) ≡ told 4 (referentFound (graphOf (now (bases .entry)) (now (short .entry)) (now («long_at» .entry)) (now («long_value» .entry)) (now (codes .entry)) (now (targets .entry)) (now (fields .entry)) (now («escape_at» .entry)) (now («escape_label» .entry)) (now («weak_from» .entry)) (now («weak_to» .entry))) (now (table .entry)) object label) ⌝ }
 {
-    let found = query::field::referent(
+    let found = ask_graph::field::referent(
         bases,
         short,
         long_at,
@@ -246,7 +246,7 @@ pub extern "C" fn yokefathom_referent(
         object,
         label,
     );
-    let says = told::referent(found);
+    let says = answer_numbers::referent(found);
     *answer = says;
 }
 
@@ -267,7 +267,7 @@ pub extern "C" fn yokefathom_edge(
 )
     ensures { λ _. ⌜ now (answer .exit) ≡ told 5 (nextOf (0 ∷ start ∷ end ∷ []) (now (targets .entry)) (now (codes .entry)) (now (fields .entry)) (now («escape_at» .entry)) (now («escape_label» .entry)) object k expected) ⌝ }
 {
-    let found = reader::edge_of(
+    let found = ask_edges::edge_of(
         targets,
         codes,
         fields,
@@ -278,7 +278,7 @@ pub extern "C" fn yokefathom_edge(
         k,
         expected,
     );
-    let says = told::next_edge(found);
+    let says = answer_numbers::next_edge(found);
     *answer = says;
 }
 
@@ -293,8 +293,8 @@ pub extern "C" fn yokefathom_lean_span(
 ) -> u64
     ensures { λ r. ⌜ r ≡ spanNumber (spanOf (shortOf (now (bases .entry)) (now (short .entry))) codes targets object) ⌝ }
 {
-    let found = lean::span(bases, short, codes, targets, object);
-    told::span_number(found)
+    let found = ask_short::span(bases, short, codes, targets, object);
+    answer_numbers::span_number(found)
 }
 
 #[no_mangle]
@@ -309,8 +309,8 @@ pub extern "C" fn yokefathom_lean_label_of(
 ) -> u64
     ensures { λ r. ⌜ r ≡ replyOf (labelFound (leanOf (now (bases .entry)) (now (short .entry)) (now (codes .entry)) (now (targets .entry)) (now (fields .entry)) [] []) object target) ⌝ }
 {
-    let found = lean::label::label_of(bases, short, codes, targets, fields, object, target);
-    told::label_reply(found)
+    let found = ask_short::label::label_of(bases, short, codes, targets, fields, object, target);
+    answer_numbers::label_reply(found)
 }
 
 #[no_mangle]
@@ -326,8 +326,8 @@ pub extern "C" fn yokefathom_lean_field(
 ) -> u64
     ensures { λ r. ⌜ r ≡ replyOf (fieldFound (leanOf (now (bases .entry)) (now (short .entry)) (now (codes .entry)) (now (targets .entry)) (now (fields .entry)) [] []) (now (table .entry)) object label) ⌝ }
 {
-    let found = lean::field::field(bases, short, codes, targets, fields, table, object, label);
-    told::field_reply(found)
+    let found = ask_short::field::field(bases, short, codes, targets, fields, table, object, label);
+    answer_numbers::field_reply(found)
 }
 
 #[no_mangle]
@@ -345,7 +345,7 @@ pub extern "C" fn yokefathom_lean_referent(
 ) -> u64
     ensures { λ r. ⌜ r ≡ replyOf (referentFound (leanOf (now (bases .entry)) (now (short .entry)) (now (codes .entry)) (now (targets .entry)) (now (fields .entry)) (now («weak_from» .entry)) (now («weak_to» .entry))) (now (table .entry)) object label) ⌝ }
 {
-    let found = lean::field::referent(
+    let found = ask_short::field::referent(
         bases,
         short,
         codes,
@@ -357,7 +357,7 @@ pub extern "C" fn yokefathom_lean_referent(
         object,
         label,
     );
-    told::referent_reply(found)
+    answer_numbers::referent_reply(found)
 }
 
 // The label that a code says by itself, where `expected` is what the edge before left behind, and what is expected behind this one.
@@ -365,6 +365,6 @@ pub extern "C" fn yokefathom_lean_referent(
 pub extern "C" fn yokefathom_lean_label(code: u16, expected: u32, fields: &[u32]) -> u64
     ensures { λ r. ⌜ r ≡ labelNext expected (plainBack (now (fields .entry)) expected code) ⌝ }
 {
-    let found = lean::label::read_code(code, expected, fields);
-    told::code_reply(found, expected)
+    let found = ask_short::label::read_code(code, expected, fields);
+    answer_numbers::code_reply(found, expected)
 }

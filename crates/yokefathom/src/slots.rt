@@ -1,6 +1,6 @@
 // The three slot columns of a schema from slot rows, which a host lends as columns.
 ghost use lib.ListN.{length};
-ghost use Rattle.rows.specs.Rows.{left, rowsOf};
+ghost use Rattle.slot_rows.specs.Rows.{left, rowsOf};
 ghost use Rattle.yokefathom.specs.Calls.{SlotsTold};
 
 // The rows written, zeros behind them; or ROOM, and all three columns zero.
@@ -16,6 +16,13 @@ pub extern "C" fn yokefathom_fill_columns(
 )
     ensures { λ _. ⌜ SlotsTold (left (rowsOf (now («from_offsets» .entry)) (now («from_labels» .entry)) (now («from_weak» .entry))) (length (now (offsets .entry))) (length (now (labels .entry))) (length (now (weak .entry)))) (now (answer .exit)) (now (offsets .exit)) (now (labels .exit)) (now (weak .exit)) ⌝ }
 {
-    let filled = rows::fill_columns(from_offsets, from_labels, from_weak, offsets, labels, weak);
-    *answer = told::filled(filled);
+    let filled = slot_rows::fill_columns(
+        from_offsets,
+        from_labels,
+        from_weak,
+        offsets,
+        labels,
+        weak,
+    );
+    *answer = answer_numbers::filled(filled);
 }

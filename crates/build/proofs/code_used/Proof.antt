@@ -4,7 +4,7 @@ use mathlib.Core.Path.{sym, ap, _∙_}
 use lib.ListN.{length}
 use lib.Seq.{length-take-le}
 use Rattle.rules.specs.Types.{builtSays}
-use Rattle.stages.specs.Stages.{kept}
+use Rattle.build_rooms.specs.Stages.{kept}
 use Rattle.build.proofs.Fronts.{take-least, ready-used, coding-used}
 use borrow.Author.Needs.{needs}
 use Rattle.build.proofs.code_used.Statement.{statement}

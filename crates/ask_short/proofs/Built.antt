@@ -1,0 +1,43 @@
+-- On the columns of an accepted build: an answer by the short columns that is no refusal is the same question on the object's edges. Assumes nothing.
+use Prim.Native.Nat.{ℕ, suc}
+use mathlib.Core.Path.{_≡_, sym, ap, _∙_}
+use mathlib.Core.Bool.{true}
+use mathlib.Core.List.{List, [], _∷_}
+use lib.ListN.{length}
+use Rattle.columns.specs.Columns.{accepts}
+use Rattle.rules.specs.Input.{Input, objectCount}
+use Rattle.rules.specs.Edges.{edgesOf, weakTargets, offset, graph}
+use Rattle.rules.specs.Questions.{Columns, columnsOf, labelOf, plainly, labelIn, fieldIn, referentIn}
+use Rattle.rules.proofs.Acceptance.{Passed}
+use Rattle.ask_graph.specs.Reading.{spanOf}
+use Rattle.ask_graph.specs.Labelled.{spanIn, Labelled}
+use Rattle.ask_graph.specs.Sought.{fieldFound, referentFound}
+use Rattle.ask_graph.proofs.Labels.{toward-labelled}
+use Rattle.ask_graph.proofs.Built.{strong, span-built, label-built, field-built, referent-built}
+use Rattle.ask_short.specs.Lean.{labelFound}
+use Rattle.ask_short.proofs.Whole.{shortly, leanly, span-whole, label-whole, field-whole, referent-whole}
+
+-- `labelFound` is one way to meet the contract of `label_of`.
+pub label-labelled : (c : Columns) (o t : ℕ) → Labelled o (spanIn c o) (labelFound c o t) (labelOf c o t)
+unfolding labelFound
+label-labelled c o t = toward-labelled c o t
+
+module _ (x : Input) (h : Passed x) (o : ℕ) where
+  abbrev c : Columns
+  c = columnsOf (x .schema) (graph x)
+
+  abbrev n : ℕ
+  n = objectCount x
+
+  pub span-lean : accepts (spanOf (shortly (c .offsets)) (length (c .labels .codes)) (length (c .targets)) o) ≡ true
+      → spanOf (shortly (c .offsets)) (length (c .labels .codes)) (length (c .targets)) o ≡ plainly n o (0 ∷ offset x o ∷ offset x (suc o) ∷ [])
+  span-lean a = span-whole (c .offsets) (length (c .labels .codes)) (length (c .targets)) o a ∙ span-built x h o
+
+  pub label-lean : (t : ℕ) → accepts (labelFound (leanly (strong c)) o t) ≡ true → labelFound (leanly (strong c)) o t ≡ plainly n o (0 ∷ labelIn (edgesOf x o) t)
+  label-lean t a = label-whole (strong c) o t a ∙ label-built x h o t (label-labelled (strong c) o t)
+
+  pub field-lean : (table : List ℕ) (l : ℕ) → accepts (fieldFound (leanly (strong c)) table o l) ≡ true → fieldFound (leanly (strong c)) table o l ≡ plainly n o (0 ∷ fieldIn (edgesOf x o) l)
+  field-lean table l a = field-whole (strong c) table o l a ∙ field-built x h o table l
+
+  pub referent-lean : (table : List ℕ) (l : ℕ) → accepts (referentFound (leanly c) table o l) ≡ true → referentFound (leanly c) table o l ≡ plainly n o (0 ∷ referentIn (edgesOf x o) (weakTargets x o) l)
+  referent-lean table l a = referent-whole c table o l a ∙ referent-built x h o table l

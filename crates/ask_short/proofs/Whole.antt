@@ -1,0 +1,274 @@
+-- An answer by the short columns that is no refusal is the whole question's, on any columns. Assumes nothing.
+use Prim.Native.Nat.{ℕ, zero, suc, _+_, _-_, _/_, _≤_, _<_}
+use native.Mathlib.Omega.{arith}
+use mathlib.Core.Path.{_≡_, refl, sym, ap, _∙_}
+use mathlib.Core.Bool.{Bool, true, false, cond, false≢true}
+use mathlib.Core.List.{List, [], _∷_}
+use lib.Dec.{eqb, ltb, leb}
+use lib.ListN.{length}
+use borrow.Author.Tests.{lt-ltb}
+use Rattle.columns.specs.Lists.{_!_, allOf, firstPlace}
+use Rattle.columns.specs.Columns.{accepts}
+use Rattle.columns.specs.Ranks.{bisect}
+use Rattle.columns.proofs.First.{Searching, searching-start, searching-more, searching-hit}
+use Rattle.columns.proofs.Tests.{each-of}
+use Rattle.store.specs.Blocked.{Blocked, longBack, shortBack, readBack}
+use Rattle.rules.specs.Types.{ARRAY-ELEMENT, isElement}
+use Rattle.rules.specs.Labels.{Coded, isEscaped}
+use Rattle.rules.specs.Questions.{Columns}
+use Rattle.labels.specs.Reading.{rowBack, elementBack, fieldBack, codeBack, stepBack, nextOf, onward, nextBack, coarseBack, walkBack, exactBack}
+use Rattle.ask_graph.proofs.Placed.{decoded-bad, decoded-end}
+use Rattle.ask_graph.specs.Reading.{ended, spanOf, weakOf}
+use Rattle.ask_graph.specs.Labelled.{spanIn, goesTo, orColumns}
+use Rattle.ask_graph.specs.Sought.{stops, decoded, placed, elementAt, codeAt, codeIn, soughtIn, targetOf, fieldFound, firstWeak, orWeak, referentFound}
+use Rattle.ask_graph.specs.declared.field.Sought.{Sought}
+use Rattle.ask_graph.specs.declared.field.Sought.the-variants.{At, Nothing, Bad}
+use Rattle.ask_short.specs.Lean.{shortOf, plainOf, plainBack, leanOf, labelFound}
+use Rattle.ask_short.proofs.Plain.{no-long, no-row, any-edge}
+
+-- the same offsets without the long ones
+abbrev pub shortly : Blocked → Blocked
+shortly b = shortOf (b .bases) (b .short)
+
+pub offset-whole : (b : Blocked) (i : ℕ) → accepts (readBack (shortly b) i) ≡ true → readBack (shortly b) i ≡ readBack b i
+unfolding readBack accepts
+offset-whole b i h = go (ltb i (length (b .short))) (eqb (b .short ! i) 65535) h
+  where
+    far : List ℕ
+    far = longBack (b .longAt) (b .longValue) i (bisect (b .longAt) i)
+
+    near : List ℕ
+    near = shortBack (b .bases) (b .short ! i) i
+
+    none : List ℕ
+    none = longBack [] [] i (bisect [] i)
+
+    go : (t u : Bool) → eqb (cond t (cond u none near) (11 ∷ i ∷ []) ! 0) 0 ≡ true → cond t (cond u none near) (11 ∷ i ∷ []) ≡ cond t (cond u far near) (11 ∷ i ∷ [])
+    go true true q = let z : eqb (none ! 0) 0 ≡ false = ap (λ (s : List ℕ). eqb (s ! 0) 0) (no-long i (bisect [] i)) in absurd (false≢true (sym z ∙ q))
+    go true false q = refl
+    go false u q = refl
+
+-- an answer that is no refusal, and one that is
+no-columns : (o : ℕ) → accepts (12 ∷ o ∷ []) ≡ false
+unfolding accepts
+no-columns o = refl
+
+-- Where a span is accepted, both its offsets are.
+ended-reads : (first next : List ℕ) (codes targets o : ℕ) → accepts (ended first next codes targets o) ≡ true → (accepts first ≡ true) × (accepts next ≡ true)
+unfolding ended
+ended-reads first next codes targets o h = go (allOf tests) refl h
+  where
+    tests : List Bool
+    tests = accepts first ∷ accepts next ∷ leb (first ! 1) (next ! 1) ∷ leb (next ! 1) codes ∷ leb (next ! 1) targets ∷ []
+
+    go : (t : Bool) → allOf tests ≡ t → accepts (cond t (0 ∷ first ! 1 ∷ next ! 1 ∷ []) (12 ∷ o ∷ [])) ≡ true → (accepts first ≡ true) × (accepts next ≡ true)
+    go true e q = (each-of tests e 0, each-of tests e 1)
+    go false e q = absurd (false≢true (sym (no-columns o) ∙ q))
+
+pub span-whole : (b : Blocked) (codes targets o : ℕ) → accepts (spanOf (shortly b) codes targets o) ≡ true → spanOf (shortly b) codes targets o ≡ spanOf b codes targets o
+unfolding spanOf
+span-whole b codes targets o h = go (ltb o (length (b .short) - 1)) h
+  where
+    first : List ℕ
+    first = readBack (shortly b) o
+
+    next : List ℕ
+    next = readBack (shortly b) (o + 1)
+
+    go : (t : Bool) → accepts (cond t (ended first next codes targets o) (11 ∷ o ∷ [])) ≡ true
+        → cond t (ended first next codes targets o) (11 ∷ o ∷ []) ≡ cond t (ended (readBack b o) (readBack b (o + 1)) codes targets o) (11 ∷ o ∷ [])
+    go true q =
+        let p = ended-reads first next codes targets o q in
+        ap (λ (s : List ℕ). ended s next codes targets o) (offset-whole b o (p .0)) ∙ ap (λ (s : List ℕ). ended (readBack b o) s codes targets o) (offset-whole b (o + 1) (p .1))
+    go false q = refl
+
+-- the same labels without the escapes: what is read is the label
+abbrev pub plainly : Coded → Coded
+plainly d = plainOf (d .codes) (d .fields)
+
+nothing-read : {x : ℕ} {xs ls : List ℕ} → ls ≡ [] → ls ≡ x ∷ xs → ⊥
+nothing-read {x} {xs} {ls} e q = let z : 0 ≡ suc (length xs) = ap length (sym e ∙ q) in absurd (omega arith)
+
+module _ (d : Coded) (e : ℕ) where
+  code-whole : (g n c : ℕ) {x : ℕ} {xs : List ℕ} → codeBack (d .fields) [] [] g n c ≡ x ∷ xs → codeBack (d .fields) [] [] g n c ≡ codeBack (d .fields) (d .escapeAt) (d .escapeLabel) g n c
+  unfolding codeBack
+  code-whole g n c {x} {xs} q = go (isEscaped c) q
+    where
+      rest : List ℕ
+      rest = cond (leb 32768 c) (elementBack (n + (c - 32768))) (fieldBack (d .fields) c)
+
+      go : (t : Bool) → cond t (rowBack [] [] g c (bisect [] g)) rest ≡ x ∷ xs → cond t (rowBack [] [] g c (bisect [] g)) rest ≡ cond t (rowBack (d .escapeAt) (d .escapeLabel) g c (bisect (d .escapeAt) g)) rest
+      go true q = absurd (nothing-read (no-row g c (bisect [] g)) q)
+      go false q = refl
+
+  -- so a code's label is the edge's, whichever edge has the code
+  pub edge-whole : (g n c : ℕ) {x : ℕ} {xs : List ℕ} → plainBack (d .fields) n c ≡ x ∷ xs → codeBack (d .fields) (d .escapeAt) (d .escapeLabel) g n c ≡ x ∷ xs
+  edge-whole g n c {x} {xs} q = let z : codeBack (d .fields) [] [] g n c ≡ x ∷ xs = sym (any-edge (d .fields) g n c) ∙ q in sym (code-whole g n c z) ∙ z
+
+  pub coarse-whole : (k : ℕ) {x : ℕ} {xs : List ℕ} → coarseBack (plainly d) k ≡ x ∷ xs → coarseBack (plainly d) k ≡ coarseBack d k
+  unfolding coarseBack
+  coarse-whole k {x} {xs} q = go (leb 32768 (d .codes ! k)) q
+    where
+      go : (t : Bool) → cond t (ARRAY-ELEMENT ∷ []) (codeBack (d .fields) [] [] k 0 (d .codes ! k)) ≡ x ∷ xs
+          → cond t (ARRAY-ELEMENT ∷ []) (codeBack (d .fields) [] [] k 0 (d .codes ! k)) ≡ cond t (ARRAY-ELEMENT ∷ []) (codeBack (d .fields) (d .escapeAt) (d .escapeLabel) k 0 (d .codes ! k))
+      go true q = refl
+      go false q = code-whole k 0 (d .codes ! k) q
+
+  next-step : (n : ℕ) (ls ms : List ℕ) {x : ℕ} {xs : List ℕ} → ((y : ℕ) (ys : List ℕ) → ls ≡ y ∷ ys → ls ≡ ms) → nextOf n ls ≡ x ∷ xs → nextOf n ls ≡ nextOf n ms
+  next-step n [] ms h q = absurd (nothing-read refl q)
+  next-step n (l ∷ ls) ms h q = ap (nextOf n) (h _ _ refl)
+
+  next-whole : (k : ℕ) {x : ℕ} {xs : List ℕ} → nextBack (plainly d) e k ≡ x ∷ xs → nextBack (plainly d) e k ≡ nextBack d e k
+  unfolding nextBack
+  next-whole zero q = refl
+  next-whole (suc k) {x} {xs} q = go (nextBack (plainly d) e k) (nextBack d e k) (λ y ys. next-whole k) q
+    where
+      go : (ns ms : List ℕ) → ((y : ℕ) (ys : List ℕ) → ns ≡ y ∷ ys → ns ≡ ms) → onward (λ n. nextOf n (stepBack (plainly d) e k n)) ns ≡ x ∷ xs
+          → onward (λ n. nextOf n (stepBack (plainly d) e k n)) ns ≡ onward (λ n. nextOf n (stepBack d e k n)) ms
+      go [] ms h q = absurd (nothing-read refl q)
+      go (n ∷ ns) ms h q = next-step n (stepBack (plainly d) e k n) (stepBack d e k n) (λ y ys. code-whole (e + k) n (d .codes ! (e + k))) q ∙ ap (onward (λ n. nextOf n (stepBack d e k n))) (h _ _ refl)
+
+  walk-whole : (k : ℕ) {x : ℕ} {xs : List ℕ} → walkBack (plainly d) e k ≡ x ∷ xs → walkBack (plainly d) e k ≡ walkBack d e k
+  unfolding walkBack
+  walk-whole k {x} {xs} q = go (nextBack (plainly d) e k) (nextBack d e k) (λ y ys. next-whole k) q
+    where
+      go : (ns ms : List ℕ) → ((y : ℕ) (ys : List ℕ) → ns ≡ y ∷ ys → ns ≡ ms) → onward (stepBack (plainly d) e k) ns ≡ x ∷ xs → onward (stepBack (plainly d) e k) ns ≡ onward (stepBack d e k) ms
+      go [] ms h q = absurd (nothing-read refl q)
+      go (n ∷ ns) ms h q = code-whole (e + k) n (d .codes ! (e + k)) q ∙ ap (onward (stepBack d e k)) (h _ _ refl)
+
+  pub exact-whole : (k : ℕ) {x : ℕ} {xs : List ℕ} → exactBack (plainly d) e k ≡ x ∷ xs → exactBack (plainly d) e k ≡ exactBack d e k
+  unfolding exactBack
+  exact-whole k {x} {xs} q = go (leb 32768 (d .codes ! (e + k))) q
+    where
+      go : (t : Bool) → cond t (walkBack (plainly d) e k) (stepBack (plainly d) e k 0) ≡ x ∷ xs → cond t (walkBack (plainly d) e k) (stepBack (plainly d) e k 0) ≡ cond t (walkBack d e k) (stepBack d e k 0)
+      go true q = walk-whole k q
+      go false q = code-whole (e + k) 0 (d .codes ! (e + k)) q
+
+-- the columns of a graph without long offsets and escapes
+abbrev pub leanly : Columns → Columns
+leanly c = leanOf (c .offsets .bases) (c .offsets .short) (c .labels .codes) (c .targets) (c .labels .fields) (c .weakFrom) (c .weakTo)
+
+-- an answer that comes by a span: where it is accepted, so is the span
+by-span : (s x : List ℕ) → accepts (cond (accepts s) x s) ≡ true → accepts s ≡ true
+by-span s x h = go (accepts s) refl h
+  where
+    go : (t : Bool) → accepts s ≡ t → accepts (cond t x s) ≡ true → t ≡ true
+    go true e q = refl
+    go false e q = absurd (false≢true (sym e ∙ q))
+
+is-read : (o : ℕ) (ls ms : List ℕ) → ((y : ℕ) (ys : List ℕ) → ls ≡ y ∷ ys → ls ≡ ms) → accepts (orColumns o ls) ≡ true → orColumns o ls ≡ orColumns o ms
+is-read o [] ms h q = absurd (false≢true (sym (no-columns o) ∙ q))
+is-read o (l ∷ ls) ms h q = ap (orColumns o) (h _ _ refl)
+
+module _ (c : Columns) (o t : ℕ) where
+  abbrev s : List ℕ
+  s = spanIn (leanly c) o
+
+  abbrev n : ℕ
+  n = s ! 2 - s ! 1
+
+  abbrev k : ℕ
+  k = firstPlace (goesTo (c .targets) (s ! 1) t) n
+
+  pub label-whole : accepts (labelFound (leanly c) o t) ≡ true → labelFound (leanly c) o t ≡ labelFound c o t
+  unfolding labelFound
+  label-whole h =
+      let a = by-span s (cond (ltb k n) (orColumns o (exactBack (plainly (c .labels)) (s ! 1) k)) (0 ∷ [])) h in
+      go (accepts s) a (ltb k n) h ∙ ap from (span-whole (c .offsets) (length (c .labels .codes)) (length (c .targets)) o a)
+    where
+      from : List ℕ → List ℕ
+      from s = cond (accepts s) (cond (ltb (firstPlace (goesTo (c .targets) (s ! 1) t) (s ! 2 - s ! 1)) (s ! 2 - s ! 1)) (orColumns o (exactBack (c .labels) (s ! 1) (firstPlace (goesTo (c .targets) (s ! 1) t) (s ! 2 - s ! 1)))) (0 ∷ [])) s
+
+      go : (b : Bool) → b ≡ true → (u : Bool) → accepts (cond b (cond u (orColumns o (exactBack (plainly (c .labels)) (s ! 1) k)) (0 ∷ [])) s) ≡ true
+          → cond b (cond u (orColumns o (exactBack (plainly (c .labels)) (s ! 1) k)) (0 ∷ [])) s ≡ cond b (cond u (orColumns o (exactBack (c .labels) (s ! 1) k)) (0 ∷ [])) s
+      go true e true q = is-read o (exactBack (plainly (c .labels)) (s ! 1) k) (exactBack (c .labels) (s ! 1) k) (λ y ys. exact-whole (c .labels) (s ! 1) k) q
+      go true e false q = refl
+      go false e u q = absurd (false≢true e)
+
+-- A walk that reads labels without the escapes, and meets no edge that it cannot read, is the walk that reads them all.
+module _ (d : Coded) (e n l : ℕ) where
+  hit : {k a : ℕ} {xs : List ℕ} → Searching (stops d e l) n k → k < n → coarseBack d (e + k) ≡ a ∷ xs → eqb a l ≡ true → At k ≡ decoded d e n l
+  unfolding decoded
+  hit {k} {a} {xs} s h r q =
+      let is : firstPlace (stops d e l) n ≡ k = sym (searching-hit (stops d e l) n s h (rw r q)) in
+      rw (is, lt-ltb k n h, r)
+
+  more : {k a : ℕ} {xs : List ℕ} → Searching (stops d e l) n k → k < n → coarseBack d (e + k) ≡ a ∷ xs → eqb a l ≡ false → Searching (stops d e l) n (k + 1)
+  more s h r q = searching-more (stops d e l) n s h (rw r q)
+
+module _ (d : Coded) (e n l : ℕ) (good : decoded (plainly d) e n l ≡ Bad → ⊥) where
+  step : (k : ℕ) → k < n → Searching (stops (plainly d) e l) n k → Searching (stops d e l) n k
+      → (Searching (stops (plainly d) e l) n (k + 1) → Searching (stops d e l) n (k + 1) → decoded (plainly d) e n l ≡ decoded d e n l) → decoded (plainly d) e n l ≡ decoded d e n l
+  step k h p w onward = go (coarseBack (plainly d) (e + k)) refl
+    where
+      go : (ls : List ℕ) → coarseBack (plainly d) (e + k) ≡ ls → decoded (plainly d) e n l ≡ decoded d e n l
+      go [] r = absurd (good (sym (decoded-bad (plainly d) e n l p h r)))
+      go (a ∷ xs) r = which (eqb a l) refl
+        where
+          whole : coarseBack d (e + k) ≡ a ∷ xs
+          whole = sym (coarse-whole d e (e + k) r) ∙ r
+
+          which : (t : Bool) → eqb a l ≡ t → decoded (plainly d) e n l ≡ decoded d e n l
+          which true q = sym (hit (plainly d) e n l p h r q) ∙ hit d e n l w h whole q
+          which false q = onward (more (plainly d) e n l p h r q) (more d e n l w h whole q)
+
+  walks : (m k : ℕ) → k + m ≡ n → Searching (stops (plainly d) e l) n k → Searching (stops d e l) n k → decoded (plainly d) e n l ≡ decoded d e n l
+  walks zero k z p w = sym (decoded-end (plainly d) e n l p (omega arith)) ∙ decoded-end d e n l w (omega arith)
+  walks (suc m) k z p w = step k (omega arith) p w (walks m (k + 1) (omega arith))
+
+  decoded-whole : decoded (plainly d) e n l ≡ decoded d e n l
+  decoded-whole = walks n 0 (omega arith) (searching-start (stops (plainly d) e l) n) (searching-start (stops d e l) n)
+
+sought-whole : (d : Coded) (table : List ℕ) (e n l : ℕ) → (soughtIn (plainly d) table e n l ≡ Bad → ⊥) → soughtIn (plainly d) table e n l ≡ soughtIn d table e n l
+unfolding soughtIn
+sought-whole d table e n l = go (eqb l ARRAY-ELEMENT) (isElement l) (eqb (codeIn (d .fields) table l) 32767)
+  where
+    x : Sought
+    x = placed (elementAt d e) n
+
+    y : Sought
+    y = placed (codeAt d e (codeIn (d .fields) table l)) n
+
+    go : (a b z : Bool) → (cond a x (cond b Nothing (cond z (decoded (plainly d) e n l) y)) ≡ Bad → ⊥) → cond a x (cond b Nothing (cond z (decoded (plainly d) e n l) y)) ≡ cond a x (cond b Nothing (cond z (decoded d e n l) y))
+    go true b z q = refl
+    go false true z q = refl
+    go false false true q = decoded-whole d e n l q
+    go false false false q = refl
+
+is-found : (ts : List ℕ) (e o : ℕ) (x y : Sought) → ((x ≡ Bad → ⊥) → x ≡ y) → accepts (targetOf ts e o x) ≡ true → targetOf ts e o x ≡ targetOf ts e o y
+is-found ts e o (At k) y h q = ap (targetOf ts e o) (h (λ r. let z : _≡_ {A = ℕ} 0 1 = cc in absurd (omega arith)))
+is-found ts e o Nothing y h q = ap (targetOf ts e o) (h (λ r. let z : _≡_ {A = ℕ} 0 1 = cc in absurd (omega arith)))
+is-found ts e o Bad y h q = absurd (false≢true (sym (no-columns o) ∙ q))
+
+module _ (c : Columns) (table : List ℕ) (o l : ℕ) where
+  abbrev at : List ℕ
+  at = spanIn (leanly c) o
+
+  pub field-whole : accepts (fieldFound (leanly c) table o l) ≡ true → fieldFound (leanly c) table o l ≡ fieldFound c table o l
+  unfolding fieldFound
+  field-whole h =
+      let a = by-span at (targetOf (c .targets) (at ! 1) o (soughtIn (plainly (c .labels)) table (at ! 1) (at ! 2 - at ! 1) l)) h in
+      go (accepts at) a h ∙ ap from (span-whole (c .offsets) (length (c .labels .codes)) (length (c .targets)) o a)
+    where
+      from : List ℕ → List ℕ
+      from s = cond (accepts s) (targetOf (c .targets) (s ! 1) o (soughtIn (c .labels) table (s ! 1) (s ! 2 - s ! 1) l)) s
+
+      go : (b : Bool) → b ≡ true → accepts (cond b (targetOf (c .targets) (at ! 1) o (soughtIn (plainly (c .labels)) table (at ! 1) (at ! 2 - at ! 1) l)) at) ≡ true
+          → cond b (targetOf (c .targets) (at ! 1) o (soughtIn (plainly (c .labels)) table (at ! 1) (at ! 2 - at ! 1) l)) at ≡ cond b (targetOf (c .targets) (at ! 1) o (soughtIn (c .labels) table (at ! 1) (at ! 2 - at ! 1) l)) at
+      go true e q = is-found (c .targets) (at ! 1) o (soughtIn (plainly (c .labels)) table (at ! 1) (at ! 2 - at ! 1) l) (soughtIn (c .labels) table (at ! 1) (at ! 2 - at ! 1) l) (sought-whole (c .labels) table (at ! 1) (at ! 2 - at ! 1) l) q
+      go false e q = absurd (false≢true e)
+
+  or-reads : (f w : List ℕ) → accepts (orWeak f w) ≡ true → accepts f ≡ true
+  unfolding allOf
+  or-reads f w h = go (accepts f) refl h
+    where
+      go : (t : Bool) → accepts f ≡ t → accepts (cond (allOf (t ∷ eqb (length f) 1 ∷ [])) w f) ≡ true → t ≡ true
+      go true e q = refl
+      go false e q = absurd (false≢true (sym e ∙ q))
+
+  pub referent-whole : accepts (referentFound (leanly c) table o l) ≡ true → referentFound (leanly c) table o l ≡ referentFound c table o l
+  unfolding referentFound
+  referent-whole h = ap (λ (f : List ℕ). orWeak f w) (field-whole (or-reads (fieldFound (leanly c) table o l) w h))
+    where
+      w : List ℕ
+      w = firstWeak (weakOf (length (c .offsets .short)) (c .weakFrom) (c .weakTo) o) (c .weakTo)

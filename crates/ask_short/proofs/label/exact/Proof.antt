@@ -1,0 +1,28 @@
+-- `ask_short::label::exact` meets its contract: by whether the code is an element's. Assumes nothing.
+use mathlib.Core.Path.{_∙_}
+use borrow.Author.Tests.{lt-leb, le-leb}
+use Rattle.labels.specs.Reading.{exactBack}
+use Rattle.ask_short.proofs.Plain.{any-edge}
+use borrow.Author.Needs.{needs}
+use Rattle.ask_short.proofs.label.exact.Statement.{statement}
+use Rattle.ask_short.proofs.label.exact.Tie as tie
+
+returns : tie.Need-returns
+unfolding exactBack
+returns c = simp (le-leb _ _ (c .before .if1 .taken)) (c .walk .ensures)
+
+returns-2 : tie.Need-returns-2
+unfolding exactBack
+returns-2 c = simp (lt-leb _ _ (c .before .if1 .left)) (c .read-code .ensures ∙ any-edge _ _ _ _)
+
+pub exact-spec : {M : Type 1} → statement M
+exact-spec =
+    tie.close
+    (tie.spec
+    (λ c. search needs)
+    (λ c. search needs)
+    (λ c. search needs)
+    (λ c κs. search needs)
+    returns
+    (λ c κs. search needs)
+    returns-2)

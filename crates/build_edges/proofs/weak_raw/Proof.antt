@@ -1,0 +1,45 @@
+-- `build_edges::weak_raw` meets its contract. Of a refused input nothing is asked. Assumes nothing.
+use mathlib.Core.Path.{_≡_, sym, ap, _∙_}
+use mathlib.Core.Bool.{true≢false}
+use borrow.Author.Tests.{not-true, not-false}
+use native.Mathlib.Omega.{arith}
+use mathlib.Core.Logic.{inl}
+use Rattle.need_weak.specs.Pairs.{mostWeak}
+use Rattle.need_weak.proofs.Bound.{raw-most, slots-flags}
+use Rattle.build_rooms.specs.Stages.{Fits}
+use Rattle.build_edges.proofs.Half.{fits-most}
+use borrow.Author.Needs.{needs}
+use Rattle.build_edges.proofs.weak_raw.Statement.{statement}
+use Rattle.build_edges.proofs.weak_raw.Tie as tie
+
+returns : tie.Need-returns
+returns c = λ ok. absurd (true≢false (sym ok ∙ (sym (c .before .passed .ensures) ∙ not-true _ (c .if1 .taken))))
+
+most-weak-requires : tie.Need-most-weak-requires
+most-weak-requires c κs =
+    let h = (c .before .before .before .before .before .before .before .before .before .before .before .before .before .pre (sym (c .before .passed .ensures) ∙ not-false _ (c .if1 .left))) in
+    ((omega (arith, h .even, h .objects .few), omega (arith, h .even, h .objects .class), h .few), λ o l. slots-flags (h .slots o (omega (arith, h .even))))
+
+returns-2 : tie.Need-returns-2
+returns-2 c = λ ok.
+    let h = (c .before .before .before .before .before .before .before .before .before .before .before .before .before .before .before .before .pre (sym (c .before .before .before .before .passed .ensures) ∙ not-false _ (c .before .before .before .if1 .left))) in
+    fits-most (mostWeak (c .before .before .before .before .before .before .before .before .before .before .before .before .before .before .before .before .args .kinds .now) (c .before .before .before .before .before .before .before .before .before .before .before .before .before .before .before .before .args .classes .now) (c .before .before .before .before .before .before .before .before .before .before .before .before .before .before .before .before .args .class-kinds .now) (c .before .before .before .before .before .before .before .before .before .before .before .before .before .before .before .before .args .slot-starts .now) (c .before .before .before .before .before .before .before .before .before .before .before .before .before .before .before .before .args .slot-ends .now) (c .before .before .before .before .before .before .before .before .before .before .before .before .before .before .before .before .args .slot-weak .now) (c .before .before .before .before .before .before .before .before .before .before .before .before .before .before .before .before .args .policy)) (c .before .before .before .before .before .before .before .before .before .before .before .before .before .before .before .before .args .weak-from) (c .before .before .before .before .before .before .before .before .before .before .before .before .before .before .before .before .args .weak-to) (h .even) (raw-most (c .before .before .before .before .before .before .before .before .before .before .before .before .before .before .before .before .args .ids .now) (c .before .before .before .before .before .before .before .before .before .before .before .before .before .before .before .before .args .kinds .now) (c .before .before .before .before .before .before .before .before .before .before .before .before .before .before .before .before .args .classes .now) (c .before .before .before .before .before .before .before .before .before .before .before .before .before .before .before .before .args .starts .now) (c .before .before .before .before .before .before .before .before .before .before .before .before .before .before .before .before .args .bodies .now) (c .before .before .before .before .before .before .before .before .before .before .before .before .before .before .before .before .args .bytes .now) (c .before .before .before .before .before .before .before .before .before .before .before .before .before .before .before .before .args .size) (c .before .before .before .before .before .before .before .before .before .before .before .before .before .before .before .before .args .class-kinds .now) (c .before .before .before .before .before .before .before .before .before .before .before .before .before .before .before .before .args .slot-starts .now) (c .before .before .before .before .before .before .before .before .before .before .before .before .before .before .before .before .args .slot-ends .now) (c .before .before .before .before .before .before .before .before .before .before .before .before .before .before .before .before .args .slot-offsets .now) (c .before .before .before .before .before .before .before .before .before .before .before .before .before .before .before .before .args .slot-weak .now) (c .before .before .before .before .before .before .before .before .before .before .before .before .before .before .before .before .args .policy) _) (c .before .before .most-weak .ensures) (c .before .least .ensures .1) (c .if2 .taken)
+
+count-weak-raw-requires : tie.Need-count-weak-raw-requires
+count-weak-raw-requires c κs = let h = (c .before .before .before .before .before .before .before .before .before .before .before .before .before .before .before .before .pre (sym (c .before .before .before .before .passed .ensures) ∙ not-false _ (c .before .before .before .if1 .left))) in ((h .objects, h .bodies-long, h .few), (h .slots, h .body))
+
+returns-3 : tie.Need-returns-3
+unfolding Fits
+returns-3 c = λ ok. inl (c .count-weak-raw .ensures)
+
+pub weak-raw-spec : {M : Type 1} → statement M
+weak-raw-spec =
+    tie.close
+    (tie.spec
+    (λ c κs. search needs)
+    returns
+    most-weak-requires
+    (λ c κs. search needs)
+    returns-2
+    count-weak-raw-requires
+    returns-3)

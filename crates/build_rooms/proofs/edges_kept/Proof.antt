@@ -1,0 +1,26 @@
+-- `build_rooms::edges_kept` meets its contract. Assumes nothing.
+use mathlib.Core.Path.{sym, ap, _∙_}
+use Rattle.columns.specs.Columns.{accepts}
+use Rattle.rules.specs.declared.Built.{Built}
+use Rattle.rules.specs.Types.{builtSays}
+use Rattle.build_rooms.specs.Stages.{kept}
+use Rattle.build_rooms.proofs.Tests.{kept-refused}
+use borrow.Author.Needs.{needs}
+use Rattle.build_rooms.proofs.edges_kept.Statement.{statement}
+use Rattle.build_rooms.proofs.edges_kept.Tie as tie
+
+returns : tie.Need-returns
+unfolding kept accepts
+returns c = sym (ap (λ (b : Built). kept 1 (builtSays b)) (c .before .v .given .1))
+
+returns-2 : tie.Need-returns-2
+returns-2 c = kept-refused 1 (c .enum-told .given .0 .0) ∙ sym (ap (λ (b : Built). kept 1 (builtSays b)) (c .enum-told .given .1))
+
+pub edges-kept-spec : {M : Type 1} → statement M
+edges-kept-spec =
+    tie.close
+    (tie.spec
+    (λ c. search needs)
+    (λ c. search needs)
+    returns
+    returns-2)

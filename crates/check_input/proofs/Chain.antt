@@ -1,0 +1,185 @@
+-- Refusals in order: what each test that passes leaves to decide, and what one that fails decides. Assumes nothing.
+use mathlib.Core.Path.{_≡_, refl, sym, ap, _∙_}
+use mathlib.Core.Bool.{Bool, true, false, cond, not, false≢true}
+use mathlib.Core.List.{List, [], _∷_, _++_}
+use Prim.Native.Nat.{ℕ, suc, _≤_, _<_}
+use native.Mathlib.Omega.{arith}
+use borrow.Author.Tests.{lt-ltb, le-ltb, ltb-false, leb-false, eqb-true, ne-eqb, not-false}
+use lib.Dec.{eqb, ltb}
+use lib.ListN.{length, take, getD}
+use Rattle.columns.specs.Lists.{_!_, places, firstPlace, allOf, anyOf}
+use Rattle.columns.specs.Columns.{accepts}
+use Rattle.columns.specs.Ranks.{Rises}
+use Rattle.columns.proofs.Lists.{first-none}
+use Rattle.columns.proofs.Sums.{collect-ext}
+use Rattle.columns.proofs.Tests.{none-of, second-fails}
+use Rattle.rules.specs.Input.{Input, Schema, Copied, Raw, Route.copied, Route.raw, objectCount, classCount}
+use Rattle.rules.specs.Verdict.{firstOf, at, once, schemaLengths, routeLengths, badLengths, badLimit, badSize, badObject, badDumped, badFind, badCopied, badSpan, badRoot, falls}
+use Rattle.rules.proofs.First.{first-append, first-once, first-place}
+use Rattle.check_input.specs.Flat.{faultsLate, faultsBefore}
+use Rattle.check_tables.specs.Lengths.{sizeOnly}
+use Rattle.check_tables.specs.Reads.{Tables}
+use Rattle.check_tables.proofs.Laws.{steps-rise}
+use Rattle.check_input.proofs.Either.{first-is}
+
+-- no refusal is an acceptance
+pub refused : {A : Type 0} (k : ℕ) (ps : List ℕ) → accepts (suc k ∷ ps) ≡ true → A
+unfolding accepts
+refused k ps e = absurd (false≢true (sym (ne-eqb (suc k) 0 (λ z. omega arith)) ∙ e))
+
+pub first-ext : (s t : ℕ → Bool) (n : ℕ) → ((i : ℕ) → s i ≡ t i) → firstPlace s n ≡ firstPlace t n
+unfolding places
+first-ext s t n h = ap (λ (xs : List ℕ). getD xs 0 n) (collect-ext _ _ n (λ i l. ap (λ (b : Bool). cond b (i ∷ []) []) (h i)))
+
+-- a number with place 0, and one with a lowest place, in front of others
+module _ (k : ℕ) (fs : List (List ℕ)) (done : List ℕ) where
+  pub once-fails : {b : Bool} → b ≡ true → k ∷ 0 ∷ [] ≡ firstOf (at k (once b) ++ fs) done
+  once-fails {b} h = sym (first-append (at k (once b)) fs done ∙ first-once k b (firstOf fs done) ∙ rw h)
+
+  pub once-passes : {b : Bool} → b ≡ false → firstOf fs done ≡ firstOf (at k (once b) ++ fs) done
+  once-passes {b} h = sym (first-append (at k (once b)) fs done ∙ first-once k b (firstOf fs done) ∙ rw h)
+
+  pub place-fails : (t : ℕ → Bool) (n : ℕ) {p : ℕ} → p ≡ firstPlace t n → p < n → k ∷ p ∷ [] ≡ firstOf (at k (places t n) ++ fs) done
+  place-fails t n e l = sym (first-append (at k (places t n)) fs done ∙ first-place k t n (firstOf fs done) ∙ rw (← e, lt-ltb _ _ l))
+
+  pub place-passes : (t : ℕ → Bool) (n : ℕ) {p : ℕ} → p ≡ firstPlace t n → n ≤ p → firstOf fs done ≡ firstOf (at k (places t n) ++ fs) done
+  place-passes t n e l = sym (first-append (at k (places t n)) fs done ∙ first-place k t n (firstOf fs done) ∙ rw (← e, le-ltb _ _ l))
+
+  pub list-fails : {p : ℕ} (ps : List ℕ) → p ∷ [] ≡ take 1 ps → k ∷ p ∷ [] ≡ firstOf (at k ps ++ fs) done
+  unfolding at
+  list-fails {p} [] e = let z : _≡_ {A = ℕ} 0 1 = cc in absurd (omega arith)
+  list-fails {p} (q ∷ ps) e = let z : p ≡ q = cc in rw z
+
+  pub list-passes : (ps : List ℕ) → [] ≡ take 1 ps → firstOf fs done ≡ firstOf (at k ps ++ fs) done
+  unfolding at
+  list-passes [] e = refl
+  list-passes (q ∷ ps) e = let z : _≡_ {A = ℕ} 0 1 = cc in absurd (omega arith)
+
+-- The checks behind those of the tables.
+module _ (x : Input) (done : List ℕ) where
+  abbrev n : ℕ
+  n = objectCount x
+
+  abbrev roots : List (List ℕ)
+  roots = at 7 (places (badRoot n (x .roots)) (length (x .roots)))
+
+  pub late-copied : {p : ℕ} → p ∷ [] ≡ take 1 (badCopied (x .route)) → 5 ∷ p ∷ [] ≡ firstOf (faultsLate x) done
+  unfolding faultsLate
+  late-copied e = list-fails 5 (at 6 (places (badSpan x) n) ++ roots) done (badCopied (x .route)) e
+
+  module _ (ids : [] ≡ take 1 (badCopied (x .route))) {o : ℕ} (eo : o ≡ firstPlace (badSpan x) n) where
+    later : firstOf (at 6 (places (badSpan x) n) ++ roots) done ≡ firstOf (faultsLate x) done
+    unfolding faultsLate
+    later = list-passes 5 (at 6 (places (badSpan x) n) ++ roots) done (badCopied (x .route)) ids
+
+    pub late-span : o < n → 6 ∷ o ∷ [] ≡ firstOf (faultsLate x) done
+    late-span l = place-fails 6 roots done (badSpan x) n eo l ∙ later
+
+    module _ (l : n ≤ o) {i : ℕ} (ei : i ≡ firstPlace (badRoot n (x .roots)) (length (x .roots))) where
+      last : firstOf roots done ≡ cond (ltb i (length (x .roots))) (7 ∷ i ∷ []) done
+      last = first-place 7 (badRoot n (x .roots)) (length (x .roots)) done ∙ rw (← ei)
+
+      pub late-root : i < length (x .roots) → 7 ∷ i ∷ [] ≡ firstOf (faultsLate x) done
+      late-root k = sym (last ∙ rw (lt-ltb _ _ k)) ∙ place-passes 6 roots done (badSpan x) n eo l ∙ later
+
+      pub late-none : length (x .roots) ≤ i → done ≡ firstOf (faultsLate x) done
+      late-none k = sym (last ∙ rw (le-ltb _ _ k)) ∙ place-passes 6 roots done (badSpan x) n eo l ∙ later
+
+  -- All checks but PLACES.
+  abbrev classes : List (List ℕ)
+  classes = at 4 (places (badDumped x) (classCount (x .schema))) ++ faultsLate x
+
+  abbrev objects : List (List ℕ)
+  objects = at 3 (places (badObject x) n) ++ classes
+
+  pub before-lengths : badLengths x ≡ true → 1 ∷ 0 ∷ [] ≡ firstOf (faultsBefore x) done
+  unfolding faultsBefore
+  before-lengths h = once-fails 1 (at 2 (once (badLimit x)) ++ objects) done h
+
+  module _ (h1 : badLengths x ≡ false) where
+    pub before-limit : badLimit x ≡ true → 2 ∷ 0 ∷ [] ≡ firstOf (faultsBefore x) done
+    unfolding faultsBefore
+    before-limit h = once-fails 2 objects done h ∙ once-passes 1 (at 2 (once (badLimit x)) ++ objects) done h1
+
+    module _ (h2 : badLimit x ≡ false) {o : ℕ} (eo : o ≡ firstPlace (badObject x) n) where
+      tables : firstOf objects done ≡ firstOf (faultsBefore x) done
+      unfolding faultsBefore
+      tables = once-passes 2 objects done h2 ∙ once-passes 1 (at 2 (once (badLimit x)) ++ objects) done h1
+
+      pub before-object : o < n → 3 ∷ o ∷ [] ≡ firstOf (faultsBefore x) done
+      before-object l = place-fails 3 classes done (badObject x) n eo l ∙ tables
+
+      module _ (l : n ≤ o) {c : ℕ} (ec : c ≡ firstPlace (badDumped x) (classCount (x .schema))) where
+        pub before-class : c < classCount (x .schema) → 4 ∷ c ∷ [] ≡ firstOf (faultsBefore x) done
+        before-class k = place-fails 4 (faultsLate x) done (badDumped x) (classCount (x .schema)) ec k ∙ place-passes 3 classes done (badObject x) n eo l ∙ tables
+
+        pub before-late : classCount (x .schema) ≤ c → firstOf (faultsLate x) done ≡ firstOf (faultsBefore x) done
+        before-late k = place-passes 4 (faultsLate x) done (badDumped x) (classCount (x .schema)) ec k ∙ place-passes 3 classes done (badObject x) n eo l ∙ tables
+
+-- Columns of one length, of an input whose lengths do not differ.
+module _ (x : Input) (h : badLengths x ≡ false) where
+  abbrev k : Schema
+  k = x .schema
+
+  pub objects-even : (length (x .objects .kinds) ≡ objectCount x) × (length (x .objects .classes) ≡ objectCount x) × (length (x .objects .lengths) ≡ objectCount x)
+  unfolding badLengths
+  objects-even = let d = none-of _ (none-of _ h 0) in (eqb-true _ _ (not-false _ (d 0)), eqb-true _ _ (not-false _ (d 1)), eqb-true _ _ (not-false _ (d 2)))
+
+  pub dumped-even : length (k .classes .dumped) ≡ classCount k
+  unfolding badLengths schemaLengths
+  dumped-even = eqb-true _ _ (not-false _ (none-of _ (none-of _ (none-of _ h 1) 0) 1))
+
+  pub statics-even : (length (k .classes .loaders) ≡ classCount k) × (length (k .statics .values) ≡ length (k .statics .names))
+  unfolding badLengths schemaLengths
+  statics-even = let s = none-of _ (none-of _ h 1) in (eqb-true _ _ (not-false _ (none-of _ (s 0) 0)), eqb-true _ _ (not-false _ (none-of _ (s 3) 1)))
+
+  pub tables-even : Tables (k .classes .dumped) (k .classes .kinds) (k .classes .slotStart) (k .classes .slotEnd) (k .classes .staticStart) (k .classes .staticEnd) (k .slots .offsets) (k .slots .labels) (k .slots .weak) (k .statics .names) (k .statics .types)
+  unfolding badLengths schemaLengths
+  tables-even =
+      let s = none-of _ (none-of _ h 1) in
+      record {
+        kinds-long = eqb-true _ _ (not-false _ (none-of _ (s 0) 2)) ∙ sym dumped-even;
+        slot-starts-long = eqb-true _ _ (not-false _ (none-of _ (s 1) 0)) ∙ sym dumped-even;
+        slot-ends-long = eqb-true _ _ (not-false _ (none-of _ (s 1) 1)) ∙ sym dumped-even;
+        static-starts-long = eqb-true _ _ (not-false _ (none-of _ (s 1) 2)) ∙ sym dumped-even;
+        static-ends-long = eqb-true _ _ (not-false _ (none-of _ (s 1) 3)) ∙ sym dumped-even;
+        labels-long = eqb-true _ _ (not-false _ (none-of _ (s 2) 0));
+        weak-long = eqb-true _ _ (not-false _ (none-of _ (s 2) 1));
+        types-long = eqb-true _ _ (not-false _ (none-of _ (s 3) 0));
+      }
+
+  pub copied-even : (c : Copied) → x .route ≡ copied c → (length (c .ids .ids) ≡ length (c .ids .places)) × (length (c .starts) ≡ objectCount x)
+  unfolding badLengths routeLengths
+  copied-even c e =
+      let d = rw e at (none-of _ h 2) in
+      (eqb-true _ _ (not-false _ (none-of _ (none-of _ d 0) 0)), eqb-true _ _ (not-false _ (none-of _ (none-of _ d 1) 0)))
+
+  pub raw-even : (r : Raw) → x .route ≡ raw r → (length (r .starts) ≡ objectCount x) × (length (r .lengths) ≡ objectCount x)
+  unfolding badLengths routeLengths
+  raw-even r e = let d = none-of _ (rw e at (none-of _ h 2)) in (eqb-true _ _ (not-false _ (d 0)), eqb-true _ _ (not-false _ (d 1)))
+
+-- an id size that is allowed is at most 8
+pub size-small : (size : ℕ) → badSize (sizeOnly size) ≡ false → size ≤ 8
+unfolding badSize anyOf
+size-small size h = go (eqb size 4) refl (eqb size 8) refl h
+  where
+    go : (a : Bool) → eqb size 4 ≡ a → (b : Bool) → eqb size 8 ≡ b → not (anyOf (a ∷ b ∷ [])) ≡ false → size ≤ 8
+    go true ea b eb h = omega (arith, eqb-true size 4 ea)
+    go false ea true eb h = omega (arith, eqb-true size 8 eb)
+    go false ea false eb h = absurd (false≢true (sym h))
+
+-- Ids rise where no object is at fault.
+pub ids-rise : (x : Input) {o : ℕ} → o ≡ firstPlace (badObject x) (objectCount x) → objectCount x ≤ o → Rises (x .objects .ids)
+unfolding badObject
+ids-rise x {o} e l =
+    steps-rise (x .objects .ids)
+    (λ i m. leb-false (x .objects .ids ! suc i) (x .objects .ids ! i)
+    (second-fails _ _ (none-of _ (first-none (badObject x) (objectCount x) (suc i) (rw (← e) l) m) 1) (lt-ltb 0 (suc i) (omega arith))))
+
+-- No class is found at fault where none is at fault at all.
+pub finds-none : (x : Input) {c : ℕ} → c ≡ firstPlace (badDumped x) (classCount (x .schema)) → classCount (x .schema) ≤ c
+    → classCount (x .schema) ≡ firstPlace (badFind x) (classCount (x .schema))
+unfolding badDumped
+finds-none x e l =
+    first-is (badFind x) (classCount (x .schema)) (classCount (x .schema)) (omega arith)
+    (λ j m. none-of _ (first-none (badDumped x) (classCount (x .schema)) j (rw (← e) l) m) 1) (λ m. absurd (omega arith))

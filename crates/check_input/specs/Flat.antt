@@ -1,0 +1,94 @@
+-- Inputs from flat columns, and the faults that are tested before the places are counted. Assumes nothing.
+use Prim.Native.Nat.{ℕ}
+use mathlib.Core.Path.{_≡_}
+use mathlib.Core.Bool.{cond}
+use mathlib.Core.List.{List, [], _∷_, _++_}
+use lib.ListN.{length}
+use Rattle.columns.specs.Lists.{places}
+use Rattle.columns.specs.Columns.{zeros, accepts}
+use Rattle.rules.specs.declared.Checked.{Checked}
+use Rattle.rules.specs.Types.{checkedSays}
+use Rattle.rules.specs.declared.ReferencePolicy.{ReferencePolicy}
+use Rattle.rules.specs.Input.{Schema, Route, Route.copied, Route.raw, Input, objectCount, classCount}
+use Rattle.rules.specs.Places.{placeCount}
+use Rattle.rules.specs.Verdict.{firstOf, at, once, badLengths, badLimit, badObject, badDumped, badCopied, badSpan, badRoot, overPlaces, faults, checkSays}
+use Rattle.check_tables.specs.Found.{marksIf}
+use Rattle.check_tables.specs.Reads.{noPolicy, noRoute}
+use Rattle.check_tables.specs.Lengths.{schemaOf}
+use Rattle.build_rooms.specs.Stages.{Fits}
+
+-- an input of the tables that both routes share
+abbrev tables : List ℕ → List ℕ → List ℕ → List ℕ → Schema → List ℕ → Route → ReferencePolicy → Input
+tables ids kinds classes lengths schema roots route policy = record {
+  objects = record { ids = ids; kinds = kinds; classes = classes; lengths = lengths };
+  schema = schema;
+  roots = roots;
+  route = route;
+  policy = policy;
+}
+
+abbrev pub copiedInput : List ℕ → List ℕ → List ℕ → List ℕ → List ℕ → List ℕ → List ℕ → List ℕ → List ℕ → List ℕ → List ℕ → List ℕ → List ℕ → List ℕ → List ℕ → List ℕ → List ℕ → List ℕ → ℕ → List ℕ → List ℕ → List ℕ → ℕ → List ℕ → List ℕ → ReferencePolicy → Input
+copiedInput ids kinds classes lengths classIds loaders dumped classKinds slotStart slotEnd staticStart staticEnd offsets labels weak staticNames types values names codes escapePlaces escapeIds base starts roots policy =
+    tables ids kinds classes lengths (schemaOf classIds loaders dumped classKinds slotStart slotEnd staticStart staticEnd offsets labels weak staticNames types values names)
+    roots (copied (record { ids = record { codes = codes; places = escapePlaces; ids = escapeIds; base = base }; starts = starts })) policy
+
+abbrev pub rawInput : List ℕ → List ℕ → List ℕ → List ℕ → List ℕ → List ℕ → List ℕ → List ℕ → List ℕ → List ℕ → List ℕ → List ℕ → List ℕ → List ℕ → List ℕ → List ℕ → List ℕ → List ℕ → ℕ → List ℕ → ℕ → List ℕ → List ℕ → List ℕ → ReferencePolicy → Input
+rawInput ids kinds classes lengths classIds loaders dumped classKinds slotStart slotEnd staticStart staticEnd offsets labels weak staticNames types values names bytes size starts bodies roots policy =
+    tables ids kinds classes lengths (schemaOf classIds loaders dumped classKinds slotStart slotEnd staticStart staticEnd offsets labels weak staticNames types values names)
+    roots (raw (record { bytes = bytes; size = size; starts = starts; lengths = bodies })) policy
+
+-- the columns of the class check with those about found objects
+abbrev pub dumpedColumns : List ℕ → List ℕ → List ℕ → List ℕ → List ℕ → List ℕ → List ℕ → List ℕ → List ℕ → List ℕ → List ℕ → List ℕ → List ℕ → List ℕ → ℕ → Input
+dumpedColumns ids kinds classIds dumped classKinds slotStart slotEnd staticStart staticEnd offsets labels weak staticNames types names =
+    tables ids kinds [] [] (schemaOf classIds [] dumped classKinds slotStart slotEnd staticStart staticEnd offsets labels weak staticNames types [] names) [] noRoute noPolicy
+
+-- the columns of the checks of copied ids, parts and roots
+abbrev pub lateColumns : List ℕ → List ℕ → List ℕ → List ℕ → List ℕ → List ℕ → List ℕ → List ℕ → List ℕ → ℕ → List ℕ → List ℕ → Input
+lateColumns ids kinds classes lengths slotStart slotEnd codes escapePlaces escapeIds base starts roots =
+    copiedInput ids kinds classes lengths [] [] [] [] slotStart slotEnd [] [] [] [] [] [] [] [] 0 codes escapePlaces escapeIds base starts roots noPolicy
+
+abbrev pub lateRaw : List ℕ → List ℕ → List ℕ → List ℕ → List ℕ → List ℕ → List ℕ → ℕ → Input
+lateRaw ids kinds lengths starts bodies bytes roots size =
+    rawInput ids kinds [] lengths [] [] [] [] [] [] [] [] [] [] [] [] [] [] 0 bytes size starts bodies roots noPolicy
+
+-- The faults of copied ids, parts and roots; all faults in the order of refusal but PLACES, which is tested last, of an input that has none of these.
+unfoldable pub faultsLate : Input → List (List ℕ)
+faultsLate x = at 5 (badCopied (x .route)) ++ (at 6 (places (badSpan x) (objectCount x)) ++ at 7 (places (badRoot (objectCount x) (x .roots)) (length (x .roots))))
+
+unfoldable pub faultsBefore : Input → List (List ℕ)
+faultsBefore x =
+    at 1 (once (badLengths x))
+    ++ (at 2 (once (badLimit x)) ++ (at 3 (places (badObject x) (objectCount x)) ++ (at 4 (places (badDumped x) (classCount (x .schema))) ++ faultsLate x)))
+
+-- 8 PLACES: "total places over the limit"; else the number that is told for them. It is tested where the tests before accept.
+unfoldable pub limitSays : ℕ → ℕ → List ℕ
+limitSays n told = cond (overPlaces n) (8 ∷ 0 ∷ []) (0 ∷ told ∷ [])
+
+unfoldable pub countedSays : List ℕ → ℕ → ℕ → List ℕ
+countedSays tested n told = cond (accepts tested) (limitSays n told) tested
+
+-- the same, where only so much room matters
+pub record Counted (tested : List ℕ) (room n : ℕ) (says : List ℕ) : Type 0 where
+  pub told : ℕ
+  pub fits : Fits room n told
+  pub answer : says ≡ countedSays tested n told
+
+-- no more than the limit, so that what fits is not over it
+unfoldable pub allowed : ℕ → ℕ
+allowed room = cond (overPlaces room) 268435456 room
+
+-- What a check leaves in a working column of m numbers: the marks of the classes that are found, after a refusal zeros.
+unfoldable pub marksLeft : Input → ℕ → List ℕ
+marksLeft x m = cond (accepts (checkSays x)) (marksIf x (classCount (x .schema)) m) (zeros m)
+
+-- What `check_copied` and `check_raw` answer, r, and leave in the working column, w, that they are lent with m numbers.
+pub record Judged (x : Input) (m : ℕ) (r : Checked) (w : List ℕ) : Type 0 where
+  pub answer : checkedSays r ≡ checkSays x
+  pub marks : w ≡ marksLeft x m
+
+-- What `fit_copied` does: the same refusals, and on acceptance a number that fits the room where the places do.
+pub record Fitted (x : Input) (room m : ℕ) (r : Checked) (w : List ℕ) : Type 0 where
+  pub told : ℕ
+  pub fits : Fits room (placeCount x) told
+  pub answer : checkedSays r ≡ firstOf (faults x) (0 ∷ told ∷ [])
+  pub marks : w ≡ marksLeft x m

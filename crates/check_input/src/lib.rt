@@ -1,0 +1,242 @@
+// The input checks of document 01, put together: refusals 1 to 8 for both routes.
+ghost use lib.ListN.{length};
+ghost use Rattle.check_input.specs.Flat.{copiedInput, rawInput, Judged, Fitted};
+use rules::Checked;
+use rules::ReferencePolicy;
+
+pub mod count;
+pub mod judge;
+pub mod late;
+pub mod tables;
+
+// Whether an input of the copied route may be built, and how many places it has, or a number within the room where they fit in it. The working column,
+// whatever it held, is left with the marks of the classes that are found, which a build goes on with; after a refusal with zeros.
+pub fn fit_copied(
+    ids: &[u64],
+    kinds: &[u8],
+    classes: &[u32],
+    lengths: &[u32],
+    class_ids: &[u64],
+    loaders: &[u64],
+    dumped: &[u8],
+    class_kinds: &[u8],
+    slot_starts: &[u32],
+    slot_ends: &[u32],
+    static_starts: &[u32],
+    static_ends: &[u32],
+    slot_offsets: &[u32],
+    slot_labels: &[u32],
+    slot_weak: &[u8],
+    static_names: &[u32],
+    static_types: &[u8],
+    static_values: &[u64],
+    names: usize,
+    codes: &[u32],
+    escape_places: &[u64],
+    escape_ids: &[u64],
+    base: u64,
+    starts: &[u32],
+    roots: &[u32],
+    policy: ReferencePolicy,
+    room: usize,
+    working: &mut [u64],
+) -> Checked
+    ensures { λ r. ⌜ Fitted (copiedInput (now (ids .entry)) (now (kinds .entry)) (now (classes .entry)) (now (lengths .entry)) (now («class_ids» .entry)) (now (loaders .entry)) (now (dumped .entry)) (now («class_kinds» .entry)) (now («slot_starts» .entry)) (now («slot_ends» .entry)) (now («static_starts» .entry)) (now («static_ends» .entry)) (now («slot_offsets» .entry)) (now («slot_labels» .entry)) (now («slot_weak» .entry)) (now («static_names» .entry)) (now («static_types» .entry)) (now («static_values» .entry)) names (now (codes .entry)) (now («escape_places» .entry)) (now («escape_ids» .entry)) base (now (starts .entry)) (now (roots .entry)) policy) room (length (now (working .entry))) r (now (working .exit)) ⌝ }
+{
+    columns::zero_u64(working, 0);
+    let tested = judge::judge_copied(
+        ids,
+        kinds,
+        classes,
+        lengths,
+        class_ids,
+        loaders,
+        dumped,
+        class_kinds,
+        slot_starts,
+        slot_ends,
+        static_starts,
+        static_ends,
+        slot_offsets,
+        slot_labels,
+        slot_weak,
+        static_names,
+        static_types,
+        static_values,
+        names,
+        codes,
+        escape_places,
+        escape_ids,
+        base,
+        starts,
+        roots,
+        working,
+    );
+    let answer = count::count_copied(
+        tested,
+        room,
+        ids,
+        kinds,
+        classes,
+        lengths,
+        class_ids,
+        loaders,
+        dumped,
+        class_kinds,
+        slot_starts,
+        slot_ends,
+        static_starts,
+        static_ends,
+        slot_weak,
+        static_types,
+        static_values,
+        codes,
+        starts,
+        policy,
+    );
+    count::settle(count::accepted(answer), working);
+    answer
+}
+
+// The same, and how many places it has, as no room is lent.
+pub fn check_copied(
+    ids: &[u64],
+    kinds: &[u8],
+    classes: &[u32],
+    lengths: &[u32],
+    class_ids: &[u64],
+    loaders: &[u64],
+    dumped: &[u8],
+    class_kinds: &[u8],
+    slot_starts: &[u32],
+    slot_ends: &[u32],
+    static_starts: &[u32],
+    static_ends: &[u32],
+    slot_offsets: &[u32],
+    slot_labels: &[u32],
+    slot_weak: &[u8],
+    static_names: &[u32],
+    static_types: &[u8],
+    static_values: &[u64],
+    names: usize,
+    codes: &[u32],
+    escape_places: &[u64],
+    escape_ids: &[u64],
+    base: u64,
+    starts: &[u32],
+    roots: &[u32],
+    policy: ReferencePolicy,
+    working: &mut [u64],
+) -> Checked
+    ensures { λ r. ⌜ Judged (copiedInput (now (ids .entry)) (now (kinds .entry)) (now (classes .entry)) (now (lengths .entry)) (now («class_ids» .entry)) (now (loaders .entry)) (now (dumped .entry)) (now («class_kinds» .entry)) (now («slot_starts» .entry)) (now («slot_ends» .entry)) (now («static_starts» .entry)) (now («static_ends» .entry)) (now («slot_offsets» .entry)) (now («slot_labels» .entry)) (now («slot_weak» .entry)) (now («static_names» .entry)) (now («static_types» .entry)) (now («static_values» .entry)) names (now (codes .entry)) (now («escape_places» .entry)) (now («escape_ids» .entry)) base (now (starts .entry)) (now (roots .entry)) policy) (length (now (working .entry))) r (now (working .exit)) ⌝ }
+{
+    fit_copied(
+        ids,
+        kinds,
+        classes,
+        lengths,
+        class_ids,
+        loaders,
+        dumped,
+        class_kinds,
+        slot_starts,
+        slot_ends,
+        static_starts,
+        static_ends,
+        slot_offsets,
+        slot_labels,
+        slot_weak,
+        static_names,
+        static_types,
+        static_values,
+        names,
+        codes,
+        escape_places,
+        escape_ids,
+        base,
+        starts,
+        roots,
+        policy,
+        0,
+        working,
+    )
+}
+
+// The same on the raw route.
+pub fn check_raw(
+    ids: &[u64],
+    kinds: &[u8],
+    classes: &[u32],
+    lengths: &[u32],
+    class_ids: &[u64],
+    loaders: &[u64],
+    dumped: &[u8],
+    class_kinds: &[u8],
+    slot_starts: &[u32],
+    slot_ends: &[u32],
+    static_starts: &[u32],
+    static_ends: &[u32],
+    slot_offsets: &[u32],
+    slot_labels: &[u32],
+    slot_weak: &[u8],
+    static_names: &[u32],
+    static_types: &[u8],
+    static_values: &[u64],
+    names: usize,
+    bytes: &[u8],
+    size: usize,
+    starts: &[u64],
+    bodies: &[u32],
+    roots: &[u32],
+    policy: ReferencePolicy,
+    working: &mut [u64],
+) -> Checked
+    ensures { λ r. ⌜ Judged (rawInput (now (ids .entry)) (now (kinds .entry)) (now (classes .entry)) (now (lengths .entry)) (now («class_ids» .entry)) (now (loaders .entry)) (now (dumped .entry)) (now («class_kinds» .entry)) (now («slot_starts» .entry)) (now («slot_ends» .entry)) (now («static_starts» .entry)) (now («static_ends» .entry)) (now («slot_offsets» .entry)) (now («slot_labels» .entry)) (now («slot_weak» .entry)) (now («static_names» .entry)) (now («static_types» .entry)) (now («static_values» .entry)) names (now (bytes .entry)) size (now (starts .entry)) (now (bodies .entry)) (now (roots .entry)) policy) (length (now (working .entry))) r (now (working .exit)) ⌝ }
+{
+    columns::zero_u64(working, 0);
+    let tested = judge::judge_raw(
+        ids,
+        kinds,
+        classes,
+        lengths,
+        class_ids,
+        loaders,
+        dumped,
+        class_kinds,
+        slot_starts,
+        slot_ends,
+        static_starts,
+        static_ends,
+        slot_offsets,
+        slot_labels,
+        slot_weak,
+        static_names,
+        static_types,
+        static_values,
+        names,
+        bytes,
+        size,
+        starts,
+        bodies,
+        roots,
+        working,
+    );
+    let answer = count::count_raw(
+        tested,
+        ids,
+        kinds,
+        classes,
+        lengths,
+        class_ids,
+        loaders,
+        dumped,
+        slot_starts,
+        slot_ends,
+        static_starts,
+        static_ends,
+        static_types,
+        static_values,
+    );
+    count::settle(count::accepted(answer), working);
+    answer
+}

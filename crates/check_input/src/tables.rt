@@ -1,0 +1,171 @@
+// The checks of the tables: lengths of one table, and the first class at fault.
+ghost use mathlib.Core.Path.{_≡_};
+ghost use mathlib.Core.List.{[], _∷_};
+ghost use lib.ListN.{length};
+ghost use Rattle.columns.specs.Lists.{firstPlace};
+ghost use Rattle.columns.specs.Columns.{zeros};
+ghost use Rattle.columns.specs.Ranks.{Rises};
+ghost use Rattle.rules.specs.Verdict.{badLengths, badDumped, badFind};
+ghost use Rattle.check_tables.specs.Reads.{Tables, noPolicy};
+ghost use Rattle.check_tables.specs.Found.{marksIf, findColumns};
+ghost use Rattle.check_input.specs.Flat.{copiedInput, rawInput, dumpedColumns};
+use check_tables::classes;
+use check_tables::found;
+use check_tables::lengths;
+
+// Whether columns of one table differ in length.
+pub(crate) fn copied_lengths(
+    ids: &[u64],
+    kinds: &[u8],
+    classes: &[u32],
+    lengths: &[u32],
+    class_ids: &[u64],
+    loaders: &[u64],
+    dumped: &[u8],
+    class_kinds: &[u8],
+    slot_starts: &[u32],
+    slot_ends: &[u32],
+    static_starts: &[u32],
+    static_ends: &[u32],
+    slot_offsets: &[u32],
+    slot_labels: &[u32],
+    slot_weak: &[u8],
+    static_names: &[u32],
+    static_types: &[u8],
+    static_values: &[u64],
+    codes: &[u32],
+    escape_places: &[u64],
+    escape_ids: &[u64],
+    starts: &[u32],
+) -> bool
+    ensures { λ r. ⌜ r ≡ badLengths (copiedInput (now (ids .entry)) (now (kinds .entry)) (now (classes .entry)) (now (lengths .entry)) (now («class_ids» .entry)) (now (loaders .entry)) (now (dumped .entry)) (now («class_kinds» .entry)) (now («slot_starts» .entry)) (now («slot_ends» .entry)) (now («static_starts» .entry)) (now («static_ends» .entry)) (now («slot_offsets» .entry)) (now («slot_labels» .entry)) (now («slot_weak» .entry)) (now («static_names» .entry)) (now («static_types» .entry)) (now («static_values» .entry)) 0 (now (codes .entry)) (now («escape_places» .entry)) (now («escape_ids» .entry)) 0 (now (starts .entry)) [] noPolicy) ⌝ }
+{
+    if lengths::differ3(ids.len(), kinds.len(), classes.len(), lengths.len()) {
+        return true;
+    }
+    if lengths::schema_lengths(
+        class_ids,
+        loaders,
+        dumped,
+        class_kinds,
+        slot_starts,
+        slot_ends,
+        static_starts,
+        static_ends,
+        slot_offsets,
+        slot_labels,
+        slot_weak,
+        static_names,
+        static_types,
+        static_values,
+    ) {
+        return true;
+    }
+    if lengths::differ(escape_places.len(), escape_ids.len()) {
+        return true;
+    }
+    if lengths::differ(ids.len(), starts.len()) {
+        return true;
+    }
+    false
+}
+
+// Whether columns of one table differ in length.
+pub(crate) fn raw_lengths(
+    ids: &[u64],
+    kinds: &[u8],
+    classes: &[u32],
+    lengths: &[u32],
+    class_ids: &[u64],
+    loaders: &[u64],
+    dumped: &[u8],
+    class_kinds: &[u8],
+    slot_starts: &[u32],
+    slot_ends: &[u32],
+    static_starts: &[u32],
+    static_ends: &[u32],
+    slot_offsets: &[u32],
+    slot_labels: &[u32],
+    slot_weak: &[u8],
+    static_names: &[u32],
+    static_types: &[u8],
+    static_values: &[u64],
+    starts: &[u64],
+    bodies: &[u32],
+) -> bool
+    ensures { λ r. ⌜ r ≡ badLengths (rawInput (now (ids .entry)) (now (kinds .entry)) (now (classes .entry)) (now (lengths .entry)) (now («class_ids» .entry)) (now (loaders .entry)) (now (dumped .entry)) (now («class_kinds» .entry)) (now («slot_starts» .entry)) (now («slot_ends» .entry)) (now («static_starts» .entry)) (now («static_ends» .entry)) (now («slot_offsets» .entry)) (now («slot_labels» .entry)) (now («slot_weak» .entry)) (now («static_names» .entry)) (now («static_types» .entry)) (now («static_values» .entry)) 0 [] 0 (now (starts .entry)) (now (bodies .entry)) [] noPolicy) ⌝ }
+{
+    if lengths::differ3(ids.len(), kinds.len(), classes.len(), lengths.len()) {
+        return true;
+    }
+    if lengths::schema_lengths(
+        class_ids,
+        loaders,
+        dumped,
+        class_kinds,
+        slot_starts,
+        slot_ends,
+        static_starts,
+        static_ends,
+        slot_offsets,
+        slot_labels,
+        slot_weak,
+        static_names,
+        static_types,
+        static_values,
+    ) {
+        return true;
+    }
+    if lengths::differ2(ids.len(), starts.len(), bodies.len()) {
+        return true;
+    }
+    false
+}
+
+// The first class at fault, by its own tables or by where it is found; or the number of classes.
+pub(crate) fn first_dumped(
+    ids: &[u64],
+    kinds: &[u8],
+    class_ids: &[u64],
+    dumped: &[u8],
+    class_kinds: &[u8],
+    slot_starts: &[u32],
+    slot_ends: &[u32],
+    static_starts: &[u32],
+    static_ends: &[u32],
+    slot_offsets: &[u32],
+    slot_labels: &[u32],
+    slot_weak: &[u8],
+    static_names: &[u32],
+    static_types: &[u8],
+    names: usize,
+    working: &mut [u64],
+) -> usize
+    requires { ⌜ Rises (now ids) ⌝ }
+    requires { ⌜ length (now kinds) ≡ length (now ids) ⌝ }
+    requires { ⌜ length (now dumped) ≡ length (now «class_ids») ⌝ }
+    requires { ⌜ now working ≡ zeros (length (now working)) ⌝ }
+    requires { ⌜ Tables (now dumped) (now «class_kinds») (now «slot_starts») (now «slot_ends») (now «static_starts») (now «static_ends») (now «slot_offsets») (now «slot_labels») (now «slot_weak») (now «static_names») (now «static_types») ⌝ }
+    ensures { λ r. ⌜ r ≡ firstPlace (badDumped (dumpedColumns (now (ids .entry)) (now (kinds .entry)) (now («class_ids» .entry)) (now (dumped .entry)) (now («class_kinds» .entry)) (now («slot_starts» .entry)) (now («slot_ends» .entry)) (now («static_starts» .entry)) (now («static_ends» .entry)) (now («slot_offsets» .entry)) (now («slot_labels» .entry)) (now («slot_weak» .entry)) (now («static_names» .entry)) (now («static_types» .entry)) names)) (length (now («class_ids» .entry))) ⌝ }
+    ensures { λ _. ⌜ now (working .exit) ≡ marksIf (findColumns (now (ids .entry)) (now (kinds .entry)) (now («class_ids» .entry)) (now (dumped .entry))) (firstPlace (badFind (findColumns (now (ids .entry)) (now (kinds .entry)) (now («class_ids» .entry)) (now (dumped .entry)))) (length (now («class_ids» .entry)))) (length (now (working .entry))) ⌝ }
+{
+    let found = found::first_find(ids, kinds, class_ids, dumped, working);
+    let class = classes::first_class(
+        dumped,
+        class_kinds,
+        slot_starts,
+        slot_ends,
+        static_starts,
+        static_ends,
+        slot_offsets,
+        slot_labels,
+        slot_weak,
+        static_names,
+        static_types,
+        names,
+    );
+    if class < found {
+        return class;
+    }
+    found
+}

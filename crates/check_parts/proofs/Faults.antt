@@ -1,0 +1,226 @@
+-- The faults of PARTS as the walks test them. Assumes nothing.
+use mathlib.Core.Path.{_≡_, refl, sym, ap, _∙_}
+use mathlib.Core.Logic.{_⊎_, inl, inr}
+use mathlib.Core.Bool.{Bool, true, false, cond, not, _||_, _&&_}
+use mathlib.Core.List.{List, [], _∷_, _++_, append-nil}
+use Prim.Native.Nat.{ℕ, zero, suc, pred, _+_, _-_, _≤_, _<_, min, zero-le}
+use native.Mathlib.Numerals.{add-one}
+use native.Mathlib.Omega.{arith}
+use borrow.Author.Tests.{lt-ltb, le-ltb, ltb-false, le-leb, lt-leb, eq-eqb, ne-eqb, eqb-true, eqb-false, not-false}
+use lib.Dec.{eqb, leb, ltb}
+use lib.ListN.{length, take, getD}
+use lib.Seq.{getD-take, length-take-le}
+use Rattle.columns.specs.Lists.{_!_, collect, places, firstPlace, part, allOf, anyOf}
+use Rattle.columns.proofs.Lists.{lt-or-ge}
+use Rattle.columns.proofs.Tests.{or-true, none-of, append-empty, places-none}
+use Rattle.columns.proofs.Sums.{part-length}
+use Rattle.columns.proofs.Parts.{places-ext}
+use Rattle.columns.proofs.First.{Searching, searching-start, searching-more}
+use Rattle.labels.specs.Coding.{LaidOut}
+use Rattle.labels.proofs.Codes.{laid-within}
+use Rattle.rules.specs.Types.{LOADER, ARRAY-ELEMENT, isElement}
+use Rattle.rules.specs.Edges.{pairLe}
+use Rattle.rules.specs.Labels.{after, expected}
+use Rattle.rules.specs.Verdict.{once, badRoot}
+use Rattle.rules.specs.Parts.{degree, below, badOffsets, badLabel, badLabels, noObject, badTargets, badPair}
+use Rattle.rules.proofs.Acceptance.{once-empty}
+use Rattle.check_tables.proofs.Faults.{prior}
+use Rattle.check_parts.specs.Checks.{labelFault, pairFault}
+use Rattle.check_parts.proofs.Lists.{first-of, first-or-end, none-of-them, nothing-taken, first-collected, first-mapped}
+
+-- COLUMN 1. The first offset is not below itself.
+pub falls-start : (xs : List ℕ) → 0 < length xs → Searching (below xs) (length xs) 1
+falls-start xs l = searching-more (below xs) (length xs) (searching-start _ _) l (le-ltb (xs ! 0) (xs ! 0) (omega arith))
+
+module _ (xs : List ℕ) (edges : ℕ) where
+  abbrev last : ℕ
+  last = length xs - 1
+
+  abbrev end : List ℕ
+  end = cond (eqb (xs ! last) edges) [] (last ∷ [])
+
+  pub offsets-none : length xs ≡ 0 → 0 ∷ [] ≡ take 1 (badOffsets xs edges)
+  unfolding badOffsets anyOf
+  offsets-none e = rw e
+
+  pub offsets-start : 0 < length xs → 0 < xs ! 0 → 0 ∷ [] ≡ take 1 (badOffsets xs edges)
+  unfolding badOffsets anyOf
+  offsets-start l h = rw (ne-eqb (length xs) 0 (λ e. omega arith), ne-eqb (xs ! 0) 0 (λ e. omega arith))
+
+  module _ (l : 0 < length xs) (s : xs ! 0 ≤ 0) where
+    rest : badOffsets xs edges ≡ places (below xs) (length xs) ++ end
+    unfolding badOffsets anyOf
+    rest = rw (ne-eqb (length xs) 0 (λ e. omega arith), eq-eqb (xs ! 0) 0 (omega arith))
+
+    pub offsets-fall : {i : ℕ} → i ≡ firstPlace (below xs) (length xs) → i < length xs → i ∷ [] ≡ take 1 (badOffsets xs edges)
+    offsets-fall e k = rw (rest, e) (first-of (below xs) (length xs) end (rw e at k))
+
+    module _ {i : ℕ} (e : i ≡ firstPlace (below xs) (length xs)) (k : length xs ≤ i) where
+      only-end : badOffsets xs edges ≡ end
+      only-end = rest ∙ rw (none-of-them (below xs) (length xs) (rw e at k))
+
+      pub offsets-end : (xs ! last ≡ edges → ⊥) → last ∷ [] ≡ take 1 (badOffsets xs edges)
+      offsets-end n = rw (only-end, ne-eqb (xs ! last) edges n)
+
+      pub offsets-clean : xs ! last ≡ edges → [] ≡ take 1 (badOffsets xs edges)
+      offsets-clean n = rw (only-end, eq-eqb (xs ! last) edges n)
+
+  -- offsets without faults
+  pub laid-out : [] ≡ take 1 (badOffsets xs edges) → LaidOut xs edges
+  unfolding badOffsets
+  laid-out e =
+      let two = append-empty _ end (nothing-taken _ e) in
+      let one = append-empty (once (anyOf (eqb (length xs) 0 ∷ not (eqb (xs ! 0) 0) ∷ []))) (places (below xs) (length xs)) (two .0) in
+      let first = once-empty _ (one .0) in
+      record {
+        some = some (eqb-false _ 0 (none-of _ first 0));
+        starts = eqb-true _ 0 (not-false _ (none-of _ first 1));
+        rises = λ o k. ltb-false _ _ (places-none (below xs) (length xs) (suc o) (one .1) k);
+        ends = eqb-true _ _ (ended (eqb (xs ! last) edges) (two .1));
+      }
+    where
+      some : (length xs ≡ 0 → ⊥) → 0 < length xs
+      some h = positive (length xs) h
+        where
+          positive : (n : ℕ) → (n ≡ 0 → ⊥) → 0 < n
+          positive zero h = absurd (h refl)
+          positive (suc n) h = omega arith
+
+      ended : (b : Bool) → cond b [] (last ∷ []) ≡ [] → b ≡ true
+      ended true e = refl
+      ended false e = let z : _≡_ {A = ℕ} 0 1 = cc in absurd (omega arith)
+
+-- COLUMN 2. One label, by the three kinds.
+module _ (names n l : ℕ) where
+  pub label-field : l < LOADER → labelFault names n l ≡ leb names l
+  unfolding labelFault anyOf allOf
+  label-field h = rw (lt-leb LOADER l h, lt-leb ARRAY-ELEMENT l (omega arith)) (go (lt-or-ge l names))
+    where
+      go : (l < names) ⊎ (names ≤ l) → not (ltb l names || false) || false ≡ leb names l
+      go (inl k) = rw (lt-ltb l names k, lt-leb names l k)
+      go (inr k) = rw (le-ltb l names k, le-leb names l k)
+
+  pub label-loader : LOADER ≤ l → l < ARRAY-ELEMENT → labelFault names n l ≡ false
+  unfolding labelFault anyOf allOf
+  label-loader h k = rw (le-leb LOADER l h, lt-leb ARRAY-ELEMENT l k, or-true (ltb l names))
+
+  pub label-element : ARRAY-ELEMENT ≤ l → labelFault names n l ≡ ltb (l - ARRAY-ELEMENT) n
+  unfolding labelFault anyOf allOf
+  label-element k = rw (le-leb LOADER l (omega arith), le-leb ARRAY-ELEMENT l k, or-true (ltb l names)) (go (ltb (l - ARRAY-ELEMENT) n))
+    where
+      go : (b : Bool) → (b && true) || false ≡ b
+      go true = refl
+      go false = refl
+
+-- a label of an object's, behind k others
+pub label-at : (names : ℕ) (ls : List ℕ) (k : ℕ) → badLabel names ls k ≡ labelFault names (expected ls k) (ls ! k)
+unfolding badLabel labelFault
+label-at names ls k = refl
+
+pub expected-more : (ls : List ℕ) (k : ℕ) → after (expected ls k) (ls ! k) ≡ expected ls (k + 1)
+expected-more ls k = rw (add-one k)
+
+-- the labels of the first o objects are without fault
+pub record Labelled (names : ℕ) (offsets labels : List ℕ) (o : ℕ) : Type 0 where
+  pub none : badLabels names o offsets labels ≡ []
+
+module _ (names : ℕ) (offsets labels : List ℕ) where
+  pub labelled-none : Labelled names offsets labels 0
+  unfolding badLabels
+  labelled-none = record { none = refl }
+
+  abbrev own : ℕ → List ℕ
+  own o = part labels (offsets ! o) (offsets ! suc o)
+
+  -- by where the first fault of the object's own labels is
+  module _ (law : LaidOut offsets (length labels)) {o : ℕ} (h : Labelled names offsets labels o) (l : o + 1 < length offsets) {k : ℕ}
+      (e : k ≡ firstPlace (badLabel names (part labels (offsets ! o) (offsets ! (o + 1)))) (length (part labels (offsets ! o) (offsets ! (o + 1))))) where
+    first : k ≡ firstPlace (badLabel names (own o)) (degree offsets o)
+    first =
+        let next : suc o < length offsets = omega arith in
+        rw (add-one o) at e ∙ ap (firstPlace (badLabel names (own o))) (part-length labels (offsets ! o) (offsets ! suc o) (laid-within law o next .1))
+
+    pub labelled-more : offsets ! (o + 1) - offsets ! o ≤ k → Labelled names offsets labels (o + 1)
+    unfolding badLabels
+    labelled-more m =
+        let m′ : degree offsets o ≤ k = rw (add-one o) at m in
+        let clear : places (badLabel names (own o)) (degree offsets o) ≡ [] = none-of-them (badLabel names (own o)) (degree offsets o) (rw first at m′) in
+        record { none = rw (add-one o, h .none, clear) }
+
+    pub labelled-hit : k < offsets ! (o + 1) - offsets ! o → (offsets ! o + k) ∷ [] ≡ take 1 (badLabels names (length offsets - 1) offsets labels)
+    unfolding badLabels
+    labelled-hit m =
+        let m′ : k < degree offsets o = rw (add-one o) at m in
+        let here : take 1 (places (badLabel names (own o)) (degree offsets o)) ≡ k ∷ [] =
+        rw first
+        (sym (first-of (badLabel names (own o)) (degree offsets o) [] (rw first at m′) ∙ ap (take 1) (append-nil (places (badLabel names (own o)) (degree offsets o))))) in
+        sym (first-collected _ (length offsets - 1) o (offsets ! o + k) (h .none) (omega arith) (first-mapped (λ j. offsets ! o + j) (places (badLabel names (own o)) (degree offsets o)) k here))
+
+  pub labelled-all : {o : ℕ} → Labelled names offsets labels o → o ≡ length offsets - 1 → [] ≡ take 1 (badLabels names (length offsets - 1) offsets labels)
+  labelled-all h e = rw (← e, h .none)
+
+-- COLUMN 3. Where the counts differ, the shorter length is a fault behind all others.
+module _ (objects : ℕ) (targets : List ℕ) (edges : ℕ) where
+  both : (n : ℕ) → min (length targets) edges ≡ n → badTargets objects targets edges ≡ places (noObject objects targets) n ++ cond (eqb (length targets) edges) [] (n ∷ [])
+  unfolding badTargets
+  both n e = rw e
+
+  -- the targets that have labels are the first ones
+  front : edges ≤ length targets → firstPlace (badRoot objects (take edges targets)) (length (take edges targets)) ≡ firstPlace (noObject objects targets) edges
+  front l =
+      rw (length-take-le edges targets l)
+      (ap (λ (xs : List ℕ). getD xs 0 edges) (places-ext (badRoot objects (take edges targets)) (noObject objects targets) edges (λ i m. rw (getD-take edges targets i 0 m))))
+
+  pub targets-more : {e : ℕ} → edges < length targets → e ≡ firstPlace (badRoot objects (take edges targets)) (length (take edges targets)) → e ∷ [] ≡ take 1 (badTargets objects targets edges)
+  targets-more l q =
+      rw (both edges (omega arith), ne-eqb (length targets) edges (λ z. omega arith), q, front (omega arith)) (first-or-end (noObject objects targets) edges)
+
+  module _ (l : length targets ≤ edges) {e : ℕ} (q : e ≡ firstPlace (badRoot objects targets) (length targets)) where
+    pub targets-bad : e < length targets → e ∷ [] ≡ take 1 (badTargets objects targets edges)
+    targets-bad k = rw (both (length targets) (omega arith), q) (first-of (noObject objects targets) (length targets) _ (rw q at k))
+
+    pub targets-few : length targets < edges → e ∷ [] ≡ take 1 (badTargets objects targets edges)
+    targets-few k = rw (both (length targets) (omega arith), ne-eqb (length targets) edges (λ z. omega arith), q) (first-or-end (noObject objects targets) (length targets))
+
+    pub targets-clean : length targets ≤ e → edges ≤ length targets → [] ≡ take 1 (badTargets objects targets edges)
+    targets-clean k m =
+        rw (both (length targets) (omega arith), eq-eqb (length targets) edges (omega arith), none-of-them (noObject objects targets) (length targets) (rw q at k))
+
+-- COLUMN 4. No pair comes before (0, 0).
+least : (a b : ℕ) → ltb 0 a || (eqb 0 a && leb 0 b) ≡ true
+least zero b = le-leb 0 b zero-le
+least (suc a) b = rw (lt-ltb 0 (suc a) (omega arith))
+
+and-true : (b : Bool) → b && true ≡ b
+and-true true = refl
+and-true false = refl
+
+pub pair-at : (m : ℕ) (from to : List ℕ) (i : ℕ) → badPair m from to i ≡ pairFault m (prior from i) (prior to i) (from ! i) (to ! i)
+unfolding badPair pairFault allOf
+pair-at m from to zero = rw (least (from ! 0) (to ! 0))
+pair-at m from to (suc i) = rw (lt-ltb 0 (suc i) (omega arith), and-true (not (pairLe (record { object = from ! i; target = to ! i }) (record { object = from ! suc i; target = to ! suc i }))))
+
+not-le : (a b : ℕ) → not (leb a b) ≡ ltb b a
+not-le a b = go (lt-or-ge b a)
+  where
+    go : (b < a) ⊎ (a ≤ b) → not (leb a b) ≡ ltb b a
+    go (inl l) = rw (lt-leb a b l, lt-ltb b a l)
+    go (inr l) = rw (le-leb a b l, le-ltb b a l)
+
+or-false′ : (b : Bool) → b || false ≡ b
+or-false′ true = refl
+or-false′ false = refl
+
+-- the pair behind another: later, earlier, or of the same object
+module _ (m a₀ b₀ a b : ℕ) where
+  pub pair-later : a < m → b < m → a₀ < a → pairFault m a₀ b₀ a b ≡ false
+  unfolding pairFault anyOf
+  pair-later j k l = rw (lt-leb m a j, lt-leb m b k, lt-ltb a₀ a l)
+
+  pub pair-earlier : a < a₀ → pairFault m a₀ b₀ a b ≡ true
+  unfolding pairFault anyOf
+  pair-earlier l = rw (le-ltb a₀ a (omega arith), ne-eqb a₀ a (λ e. omega arith), or-true (leb m b)) (or-true (leb m a))
+
+  pub pair-same : a < m → b < m → a₀ ≡ a → pairFault m a₀ b₀ a b ≡ ltb b b₀
+  unfolding pairFault anyOf
+  pair-same j k e = rw (lt-leb m a j, lt-leb m b k, le-ltb a₀ a (omega arith), eq-eqb a₀ a e) (or-false′ (not (leb b₀ b)) ∙ not-le b₀ b)

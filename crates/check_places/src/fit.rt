@@ -1,0 +1,94 @@
+// Whether a copied input's places surely fit a room, by what costs little: no code is read and no static is looked up.
+ghost use mathlib.Core.Path.{_≡_};
+ghost use mathlib.Core.Bool.{true};
+ghost use Prim.Native.Nat.{_≤_};
+ghost use lib.ListN.{length};
+ghost use Rattle.columns.specs.Lists.{total};
+ghost use Rattle.check_tables.specs.Copying.{heldCodes};
+ghost use Rattle.check_places.specs.Placing.{codesIn, mostPlaces, PartsIn, ClassTables};
+use crate::statics;
+use check_tables::spans;
+
+// The objects' parts stand in the codes one behind the other: no code is in two of them, so that all parts hold no more than the codes do.
+fn in_order(
+    kinds: &[u8],
+    classes: &[u32],
+    lengths: &[u32],
+    slot_starts: &[u32],
+    slot_ends: &[u32],
+    codes: &[u32],
+    starts: &[u32],
+) -> bool
+    requires { ⌜ PartsIn (now kinds) (now classes) (now lengths) (now «slot_starts») (now «slot_ends») (now starts) (length (now codes)) ⌝ }
+    ensures { λ r. ⌜ (r ≡ true → total (codesIn (now (kinds .entry)) (now (classes .entry)) (now (lengths .entry)) (now («slot_starts» .entry)) (now («slot_ends» .entry)) (now (codes .entry)) (now (starts .entry))) (length (now (kinds .entry))) ≤ heldCodes (now (codes .entry))) ⌝ }
+{
+    let mut end = 0;
+    let mut o = 0;
+    while o < kinds.len() {
+        let part = spans::part_of(kinds[o], classes[o], lengths[o], slot_starts, slot_ends);
+        if part == 0 {
+            o += 1;
+        } else {
+            let start = columns::index(starts[o]);
+            if start < end {
+                return false;
+            }
+            end = start + columns::index(part);
+            o += 1;
+        }
+    }
+    true
+}
+
+// All of the codes that are not 0 and every object static and loader of the classes that are found are within the room.
+pub(crate) fn within(
+    held: usize,
+    room: usize,
+    ids: &[u64],
+    kinds: &[u8],
+    classes: &[u32],
+    lengths: &[u32],
+    class_ids: &[u64],
+    loaders: &[u64],
+    dumped: &[u8],
+    slot_starts: &[u32],
+    slot_ends: &[u32],
+    static_starts: &[u32],
+    static_ends: &[u32],
+    static_types: &[u8],
+    static_values: &[u64],
+    codes: &[u32],
+    starts: &[u32],
+) -> bool
+    requires { ⌜ held ≡ heldCodes (now codes) ⌝ }
+    requires { ⌜ PartsIn (now kinds) (now classes) (now lengths) (now «slot_starts») (now «slot_ends») (now starts) (length (now codes)) ⌝ }
+    requires { ⌜ ClassTables (now ids) (now «class_ids») (now loaders) (now dumped) (now «static_starts») (now «static_ends») (now «static_types») (now «static_values») ⌝ }
+    ensures { λ r. ⌜ (r ≡ true → mostPlaces (now (ids .entry)) (now (kinds .entry)) (now (classes .entry)) (now (lengths .entry)) (now («class_ids» .entry)) (now (loaders .entry)) (now (dumped .entry)) (now («slot_starts» .entry)) (now («slot_ends» .entry)) (now («static_starts» .entry)) (now («static_ends» .entry)) (now («static_types» .entry)) (now («static_values» .entry)) (now (codes .entry)) (now (starts .entry)) ≤ room) ⌝ }
+{
+    if room < held {
+        return false;
+    }
+    let most = statics::count_classes(
+        ids,
+        class_ids,
+        loaders,
+        dumped,
+        static_starts,
+        static_ends,
+        static_types,
+        static_values,
+        true,
+    );
+    if ((room - held) as u64) < most {
+        return false;
+    }
+    in_order(
+        kinds,
+        classes,
+        lengths,
+        slot_starts,
+        slot_ends,
+        codes,
+        starts,
+    )
+}

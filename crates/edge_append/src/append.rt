@@ -1,0 +1,140 @@
+// One reference appended: its id is looked up once, and what becomes of it is written where it finally stands, so that no hole is ever made.
+use super::Pass;
+ghost use mathlib.Core.Path.{_≡_};
+ghost use mathlib.Core.List.{[], _∷_};
+ghost use Prim.Native.Nat.{_^_, _<_};
+ghost use lib.ListN.{length};
+ghost use Rattle.edge_append.specs.Append.{refOf, Room, Appended};
+ghost use Rattle.edge_append.specs.Held.{keptOf, slotWith, elementWith};
+
+// The four kinds of references, as the rows of the account.
+pub const SLOT: usize = 0;
+
+pub const ELEMENT: usize = 1;
+
+pub const STATIC: usize = 2;
+
+pub const LOADER: usize = 3;
+
+pub fn narrow(x: usize) -> u32
+    requires { ⌜ x < 2 ^ 32 ⌝ }
+    ensures { λ r. ⌜ r ≡ x ⌝ }
+{
+    x as u32
+}
+
+// "Id 0 gives nothing. Found and kept: an edge with the slot's label. Found, not kept: a weak pair. Not found: dangling, kept or not." But "a missing
+// loader is not". The hints say where the search starts, and nothing else.
+pub fn append(
+    s: Pass,
+    ids: &[u64],
+    kind: usize,
+    label: u32,
+    kept: bool,
+    id: u64,
+    hints: &[u16],
+    scale: u32,
+    targets: &mut [u32],
+    labels: &mut [u32],
+    weak: &mut [u32],
+) -> Pass
+    requires { ⌜ Room (now ids) (refOf kind label kept id ∷ []) s (length (now targets)) (length (now labels)) (length (now weak)) ⌝ }
+    ensures { λ q. ⌜ Appended (now (ids .entry)) (refOf kind label kept id ∷ []) s q (now (targets .entry)) (now (labels .entry)) (now (weak .entry)) (now (targets .exit)) (now (labels .exit)) (now (weak .exit)) ⌝ }
+{
+    if id == 0 {
+        return s;
+    }
+    match lookup::hints::find_hinted(ids, id, hints, scale) {
+        lookup::Found::At(t) => {
+            if kept {
+                let at = s.edges;
+                targets[at] = narrow(t);
+                labels[at] = label;
+                return s.absorb_found();
+            }
+            let at = s.weak;
+            weak[at] = narrow(t);
+            s.absorb_weak()
+        }
+        lookup::Found::Missing(_) => {
+            if kind < LOADER {
+                return s.absorb_missing();
+            }
+            s
+        }
+    }
+}
+
+// "A slot is kept if it isn't weak or its class's kind is kept."
+fn is_kept(weak: u8, keeps: bool) -> bool
+    ensures { λ r. ⌜ r ≡ keptOf weak keeps ⌝ }
+{
+    if weak == 1 { keeps } else { true }
+}
+
+// The slot at a place of the slot columns.
+pub fn append_slot(
+    s: Pass,
+    ids: &[u64],
+    slot_labels: &[u32],
+    slot_weak: &[u8],
+    keeps: bool,
+    place: usize,
+    id: u64,
+    hints: &[u16],
+    scale: u32,
+    targets: &mut [u32],
+    labels: &mut [u32],
+    weak: &mut [u32],
+) -> Pass
+    requires { ⌜ (place < length (now «slot_labels»)) × (place < length (now «slot_weak»)) ⌝ }
+    requires { ⌜ Room (now ids) (slotWith (now «slot_labels») (now «slot_weak») keeps place id ∷ []) s (length (now targets)) (length (now labels)) (length (now weak)) ⌝ }
+    ensures { λ q. ⌜ Appended (now (ids .entry)) (slotWith (now («slot_labels» .entry)) (now («slot_weak» .entry)) keeps place id ∷ []) s q (now (targets .entry)) (now (labels .entry)) (now (weak .entry)) (now (targets .exit)) (now (labels .exit)) (now (weak .exit)) ⌝ }
+{
+    let kept = is_kept(slot_weak[place], keeps);
+    append(
+        s,
+        ids,
+        SLOT,
+        slot_labels[place],
+        kept,
+        id,
+        hints,
+        scale,
+        targets,
+        labels,
+        weak,
+    )
+}
+
+// Element k of an array.
+pub fn append_element(
+    s: Pass,
+    ids: &[u64],
+    k: usize,
+    id: u64,
+    hints: &[u16],
+    scale: u32,
+    targets: &mut [u32],
+    labels: &mut [u32],
+    weak: &mut [u32],
+) -> Pass
+    requires { ⌜ k < 2 ^ 31 ⌝ }
+    requires { ⌜ Room (now ids) (elementWith k id ∷ []) s (length (now targets)) (length (now labels)) (length (now weak)) ⌝ }
+    ensures { λ q. ⌜ Appended (now (ids .entry)) (elementWith k id ∷ []) s q (now (targets .entry)) (now (labels .entry)) (now (weak .entry)) (now (targets .exit)) (now (labels .exit)) (now (weak .exit)) ⌝ }
+{
+    let label = rules::Label::ARRAY_ELEMENT + narrow(k);
+    append(
+        s,
+        ids,
+        ELEMENT,
+        label,
+        true,
+        id,
+        hints,
+        scale,
+        targets,
+        labels,
+        weak,
+    )
+}

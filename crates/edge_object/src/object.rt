@@ -1,0 +1,254 @@
+// One object: its references in order, then the run of its weak pairs.
+use edge_append::Pass;
+use edge_append::account;
+use edge_append::append;
+use edge_append::weak;
+use edge_sources::class;
+use edge_sources::copied;
+use edge_sources::raw;
+ghost use mathlib.Core.Path.{_≡_};
+ghost use Prim.Native.Nat.{_+_, _*_, _^_, _≤_, _<_};
+ghost use lib.ListN.{length};
+ghost use Rattle.columns.specs.Ranks.{Rises};
+ghost use Rattle.index.specs.Copied.{idsOf};
+ghost use Rattle.edge_append.specs.Held.{SlotsIn, StaticsIn};
+ghost use Rattle.edge_append.specs.Raw.{BodyIn};
+ghost use Rattle.edge_append.specs.Object.{copiedParts, rawParts, Ready, Done};
+
+// By the copied route; escapes are sought from row `row` on.
+pub fn object_copied(
+    from: Pass,
+    object: usize,
+    kind: u8,
+    class: usize,
+    count: usize,
+    start: usize,
+    row: usize,
+    mark: usize,
+    policy: rules::ReferencePolicy,
+    ids: &[u64],
+    codes: &[u32],
+    escape_places: &[u64],
+    escape_ids: &[u64],
+    base: u64,
+    class_kinds: &[u8],
+    slot_start: &[u32],
+    slot_end: &[u32],
+    slot_labels: &[u32],
+    slot_weak: &[u8],
+    loaders: &[u64],
+    static_start: &[u32],
+    static_end: &[u32],
+    names: &[u32],
+    types: &[u8],
+    values: &[u64],
+    hints: &[u16],
+    scale: u32,
+    targets: &mut [u32],
+    labels: &mut [u32],
+    weak_from: &mut [u32],
+    weak_to: &mut [u32],
+    account: &mut [[u64; 3]; 4],
+) -> Pass
+    requires { ⌜ Rises (now «escape_places») ⌝ }
+    requires { ⌜ object < 2 ^ 32 ⌝ }
+    requires { ⌜ SlotsIn (now «class_kinds») (now «slot_start») (now «slot_end») (length (now «slot_labels»)) (length (now «slot_weak»)) kind class start ⌝ }
+    requires { ⌜ (kind ≡ 1 → (count ≤ 2 ^ 31) × (start + count < 2 ^ 64)) ⌝ }
+    requires { ⌜ StaticsIn (now «static_start») (now «static_end») (length (now names)) (length (now types)) (length (now values)) mark ⌝ }
+    requires { ⌜ (0 < mark → mark ≤ length (now loaders)) ⌝ }
+    requires { ⌜ Ready (now ids) (copiedParts (idsOf (now codes) (now «escape_places») (now «escape_ids») base) start (now «class_kinds») (now «slot_start») (now «slot_end») (now «slot_labels») (now «slot_weak») policy kind class count (now loaders) (now «static_start») (now «static_end») (now names) (now types) (now values) mark) from (length (now targets)) (length (now labels)) (length (now «weak_from»)) (length (now «weak_to»)) (now account) ⌝ }
+    ensures { λ q. ⌜ Done (now (ids .entry)) (copiedParts (idsOf (now (codes .entry)) (now («escape_places» .entry)) (now («escape_ids» .entry)) base) start (now («class_kinds» .entry)) (now («slot_start» .entry)) (now («slot_end» .entry)) (now («slot_labels» .entry)) (now («slot_weak» .entry)) policy kind class count (now (loaders .entry)) (now («static_start» .entry)) (now («static_end» .entry)) (now (names .entry)) (now (types .entry)) (now (values .entry)) mark) object from q (now (targets .entry)) (now (labels .entry)) (now («weak_from» .entry)) (now («weak_to» .entry)) (now (account .entry)) (now (targets .exit)) (now (labels .exit)) (now («weak_from» .exit)) (now («weak_to» .exit)) (now (account .exit)) ⌝ }
+{
+    let s1 = copied::object_slots(
+        from,
+        ids,
+        codes,
+        escape_places,
+        escape_ids,
+        base,
+        start,
+        row,
+        class_kinds,
+        slot_start,
+        slot_end,
+        slot_labels,
+        slot_weak,
+        policy,
+        kind,
+        class,
+        hints,
+        scale,
+        targets,
+        labels,
+        weak_to,
+    );
+    let s2 = copied::object_elements(
+        s1,
+        ids,
+        codes,
+        escape_places,
+        escape_ids,
+        base,
+        start,
+        row,
+        kind,
+        count,
+        hints,
+        scale,
+        targets,
+        labels,
+        weak_to,
+    );
+    let s3 = class::found_statics(
+        s2,
+        ids,
+        static_start,
+        static_end,
+        names,
+        types,
+        values,
+        mark,
+        hints,
+        scale,
+        targets,
+        labels,
+        weak_to,
+    );
+    let s4 = class::found_loader(
+        s3,
+        ids,
+        loaders,
+        mark,
+        hints,
+        scale,
+        targets,
+        labels,
+        weak_to,
+    );
+    account::tally(account, from, s1, s2, s3, s4);
+    weak::settle(
+        weak_from,
+        weak_to,
+        append::narrow(object),
+        from.weak,
+        s4.weak,
+    );
+    s4
+}
+
+// By the raw route: its body has `body` bytes.
+pub fn object_raw(
+    from: Pass,
+    object: usize,
+    kind: u8,
+    class: usize,
+    count: usize,
+    start: usize,
+    body: usize,
+    mark: usize,
+    policy: rules::ReferencePolicy,
+    ids: &[u64],
+    bytes: &[u8],
+    size: usize,
+    class_kinds: &[u8],
+    slot_start: &[u32],
+    slot_end: &[u32],
+    slot_offsets: &[u32],
+    slot_labels: &[u32],
+    slot_weak: &[u8],
+    loaders: &[u64],
+    static_start: &[u32],
+    static_end: &[u32],
+    names: &[u32],
+    types: &[u8],
+    values: &[u64],
+    hints: &[u16],
+    scale: u32,
+    targets: &mut [u32],
+    labels: &mut [u32],
+    weak_from: &mut [u32],
+    weak_to: &mut [u32],
+    account: &mut [[u64; 3]; 4],
+) -> Pass
+    requires { ⌜ object < 2 ^ 32 ⌝ }
+    requires { ⌜ SlotsIn (now «class_kinds») (now «slot_start») (now «slot_end») (length (now «slot_labels»)) (length (now «slot_weak»)) kind class 0 ⌝ }
+    requires { ⌜ length (now «slot_offsets») ≡ length (now «slot_labels») ⌝ }
+    requires { ⌜ (kind ≡ 0 → BodyIn (length (now bytes)) size start body) ⌝ }
+    requires { ⌜ (kind ≡ 1 → (count ≤ 2 ^ 31) × (size ≤ 8) × (start + count * size ≤ length (now bytes))) ⌝ }
+    requires { ⌜ StaticsIn (now «static_start») (now «static_end») (length (now names)) (length (now types)) (length (now values)) mark ⌝ }
+    requires { ⌜ (0 < mark → mark ≤ length (now loaders)) ⌝ }
+    requires { ⌜ Ready (now ids) (rawParts (now bytes) size start body (now «class_kinds») (now «slot_start») (now «slot_end») (now «slot_offsets») (now «slot_labels») (now «slot_weak») policy kind class count (now loaders) (now «static_start») (now «static_end») (now names) (now types) (now values) mark) from (length (now targets)) (length (now labels)) (length (now «weak_from»)) (length (now «weak_to»)) (now account) ⌝ }
+    ensures { λ q. ⌜ Done (now (ids .entry)) (rawParts (now (bytes .entry)) size start body (now («class_kinds» .entry)) (now («slot_start» .entry)) (now («slot_end» .entry)) (now («slot_offsets» .entry)) (now («slot_labels» .entry)) (now («slot_weak» .entry)) policy kind class count (now (loaders .entry)) (now («static_start» .entry)) (now («static_end» .entry)) (now (names .entry)) (now (types .entry)) (now (values .entry)) mark) object from q (now (targets .entry)) (now (labels .entry)) (now («weak_from» .entry)) (now («weak_to» .entry)) (now (account .entry)) (now (targets .exit)) (now (labels .exit)) (now («weak_from» .exit)) (now («weak_to» .exit)) (now (account .exit)) ⌝ }
+{
+    let s1 = raw::object_slots(
+        from,
+        ids,
+        bytes,
+        size,
+        start,
+        body,
+        class_kinds,
+        slot_start,
+        slot_end,
+        slot_offsets,
+        slot_labels,
+        slot_weak,
+        policy,
+        kind,
+        class,
+        hints,
+        scale,
+        targets,
+        labels,
+        weak_to,
+    );
+    let s2 = raw::object_elements(
+        s1,
+        ids,
+        bytes,
+        size,
+        start,
+        kind,
+        count,
+        hints,
+        scale,
+        targets,
+        labels,
+        weak_to,
+    );
+    let s3 = class::found_statics(
+        s2,
+        ids,
+        static_start,
+        static_end,
+        names,
+        types,
+        values,
+        mark,
+        hints,
+        scale,
+        targets,
+        labels,
+        weak_to,
+    );
+    let s4 = class::found_loader(
+        s3,
+        ids,
+        loaders,
+        mark,
+        hints,
+        scale,
+        targets,
+        labels,
+        weak_to,
+    );
+    account::tally(account, from, s1, s2, s3, s4);
+    weak::settle(
+        weak_from,
+        weak_to,
+        append::narrow(object),
+        from.weak,
+        s4.weak,
+    );
+    s4
+}

@@ -1,0 +1,79 @@
+-- `edge_sources::raw::object_slots` meets its contract: the class's row says which slots. Assumes nothing.
+use native.Mathlib.Omega.{arith}
+use Rattle.edge_append.proofs.Bytes.{raw-none, raw-some}
+use Rattle.edge_append.proofs.Appending.{appended-none, same-targets, same-labels, same-weak}
+use borrow.Author.Needs.{needs}
+use Rattle.edge_sources.proofs.raw.object_slots.Statement.{statement}
+use Rattle.edge_sources.proofs.raw.object_slots.Tie as tie
+
+returns : tie.Need-returns
+returns c =
+    let a = c .before .before .before .before .before .before .before .before .before .before .before .before .before .args in
+    rw (← raw-none (a .bytes .now) (a .size) (a .start) (a .body) (a .class-kinds .now) (a .slot-start .now) (a .slot-end .now) (a .slot-offsets .now) (a .slot-labels .now) (a .slot-weak .now) (a .policy) (a .kind) (a .class) (c .if1 .taken)) appended-none
+
+shared-slice-read-keeps : tie.Need-shared-slice-read-keeps
+shared-slice-read-keeps c =
+    omega (arith, c .before .before .before .before .before .before .before .before .before .before .before .before .before .before .pre .0 .kind-in (c .before .if1 .left))
+
+mul-index : tie.Need-mul-index
+mul-index c =
+    omega (arith, c .before .before .before .before .before .before .before .before .before .before .before .before .before .before .before .pre .0 .start-in (c .before .before .if1 .left))
+
+shared-slice-read-index : tie.Need-shared-slice-read-index
+shared-slice-read-index c =
+    omega (arith, c .before .before .before .before .before .before .before .before .before .before .before .before .before .before .before .before .pre .0 .start-in (c .before .before .before .if1 .left))
+
+mul-index-2 : tie.Need-mul-index-2
+mul-index-2 c =
+    omega (arith, c .before .before .before .before .before .before .before .before .before .before .before .before .before .before .before .before .before .pre .0 .end-in (c .before .before .before .before .if1 .left))
+
+shared-slice-read-index-2 : tie.Need-shared-slice-read-index-2
+shared-slice-read-index-2 c =
+    omega (arith, c .before .before .before .before .before .before .before .before .before .before .before .before .before .before .before .before .before .before .pre .0 .end-in (c .before .before .before .before .before .if1 .left))
+
+sub-count : tie.Need-sub-count
+sub-count c =
+    omega (arith, c .before .before .index .ensures, c .index2 .ensures, c .before .before .before .before .before .before .before .before .before .before .before .before .before .before .before .before .before .before .before .pre .0 .ordered (c .before .before .before .before .before .before .if1 .left))
+
+slots-requires : tie.Need-slots-requires
+slots-requires c κs =
+    let a = c .before .before .before .before .before .before .before .before .before .before .before .before .before .before .before .before .before .before .before .before .before .before .args in
+    let f = c .before .before .before .before .before .before .before .before .before .before .before .before .before .before .before .before .before .before .before .before .before .before .pre .0 in
+    let z = c .before .before .before .before .before .before .before .before .before .if1 .left in
+    let e = c .before .before .before .before .before .index .ensures in
+    let g = c .before .before .before .index2 .ensures in
+    ((omega (arith, e, g, f .ordered z, f .labels-in z, c .before .before .before .before .before .before .before .before .before .before .before .before .before .before .before .before .before .before .before .before .before .before .pre .1 .0), omega (arith, e, g, f .ordered z, f .labels-in z), omega (arith, e, g, f .ordered z, f .weak-in z)), (c .before .before .before .before .before .before .before .before .before .before .before .before .before .before .before .before .before .before .before .before .before .before .pre .1 .1 .0 z, rw (raw-some (a .bytes .now) (a .size) (a .start) (a .body) (a .class-kinds .now) (a .slot-start .now) (a .slot-end .now) (a .slot-offsets .now) (a .slot-labels .now) (a .slot-weak .now) (a .policy) (a .kind) (a .class) (c .before .before .before .before .before .before .before .before .before .if1 .left) (c .before .before .before .before .before .before .before .keeps .ensures) (c .before .before .before .before .before .index .ensures) (c .before .before .before .index2 .ensures)) (c .before .before .before .before .before .before .before .before .before .before .before .before .before .before .before .before .before .before .before .before .before .before .pre .1 .1 .1)))
+
+same-length : tie.Need-same-length
+same-length c = same-targets (c .before .before .before .before .before .before .slots .ensures)
+
+same-length-2 : tie.Need-same-length-2
+same-length-2 c = same-labels (c .before .before .before .before .before .before .slots .ensures)
+
+same-length-3 : tie.Need-same-length-3
+same-length-3 c = same-weak (c .before .before .before .before .before .before .slots .ensures)
+
+returns-2 : tie.Need-returns-2
+returns-2 c =
+    let a = c .before .before .before .before .before .before .before .before .before .before .before .before .before .before .before .before .before .before .before .before .before .before .before .before .before .before .before .before .before .args in
+    rw (← raw-some (a .bytes .now) (a .size) (a .start) (a .body) (a .class-kinds .now) (a .slot-start .now) (a .slot-end .now) (a .slot-offsets .now) (a .slot-labels .now) (a .slot-weak .now) (a .policy) (a .kind) (a .class) (c .before .before .before .before .before .before .before .before .before .before .before .before .before .before .before .before .if1 .left) (c .before .before .before .before .before .before .before .before .before .before .before .before .before .before .keeps .ensures) (c .before .before .before .before .before .before .before .before .before .before .before .before .index .ensures) (c .before .before .before .before .before .before .before .before .before .before .index2 .ensures)) (c .before .before .before .before .before .before .slots .ensures)
+
+pub object-slots-spec : {M : Type 1} → statement M
+object-slots-spec =
+    tie.close
+    (tie.spec
+    returns
+    shared-slice-read-keeps
+    (λ c κs. search needs)
+    mul-index
+    shared-slice-read-index
+    (λ c κs. search needs)
+    mul-index-2
+    shared-slice-read-index-2
+    (λ c κs. search needs)
+    sub-count
+    slots-requires
+    same-length
+    same-length-2
+    same-length-3
+    returns-2)

@@ -1,0 +1,216 @@
+// The slots of an instance and the elements of an array by the copied route: their ids stand in order in the codes.
+use super::escape::id_from;
+use edge_append::Pass;
+use edge_append::append;
+ghost use mathlib.Core.Path.{_≡_};
+ghost use Prim.Native.Nat.{_+_, _^_, _≤_, _<_};
+ghost use lib.ListN.{length};
+ghost use Rattle.columns.specs.Lists.{tab};
+ghost use Rattle.columns.specs.Ranks.{Rises};
+ghost use Rattle.index.specs.Copied.{idsOf};
+ghost use Rattle.rules.specs.Input.{copiedId};
+ghost use Rattle.edge_append.specs.Append.{Room, Appended};
+ghost use Rattle.edge_append.specs.Held.{copiedSlot, copiedElement, SlotsIn, copiedSlots, copiedElements};
+
+// The id at a place; 0 where nothing reads back, which no accepted input meets.
+pub fn id_held(
+    codes: &[u32],
+    escape_places: &[u64],
+    escape_ids: &[u64],
+    base: u64,
+    place: usize,
+) -> u64
+    ensures { λ r. ⌜ r ≡ copiedId (idsOf (now (codes .entry)) (now («escape_places» .entry)) (now («escape_ids» .entry)) base) place ⌝ }
+{
+    match index::id_at(codes, escape_places, escape_ids, base, place) {
+        index::CopiedId::Id(id) => id,
+        index::CopiedId::Index(_) => 0,
+        index::CopiedId::Copied(_) => 0,
+    }
+}
+
+// The first `count` slots from `first` on, whose ids stand from `start` on; escapes are sought from row `row` on.
+fn slots(
+    from: Pass,
+    ids: &[u64],
+    codes: &[u32],
+    escape_places: &[u64],
+    escape_ids: &[u64],
+    base: u64,
+    start: usize,
+    row: usize,
+    slot_labels: &[u32],
+    slot_weak: &[u8],
+    keeps: bool,
+    first: usize,
+    count: usize,
+    hints: &[u16],
+    scale: u32,
+    targets: &mut [u32],
+    labels: &mut [u32],
+    weak: &mut [u32],
+) -> Pass
+    requires { ⌜ Rises (now «escape_places») ⌝ }
+    requires { ⌜ (first + count ≤ length (now «slot_labels»)) × (first + count ≤ length (now «slot_weak»)) × (start + count < 2 ^ 64) ⌝ }
+    requires { ⌜ Room (now ids) (tab (copiedSlot (idsOf (now codes) (now «escape_places») (now «escape_ids») base) start (now «slot_labels») (now «slot_weak») keeps first) count) from (length (now targets)) (length (now labels)) (length (now weak)) ⌝ }
+    ensures { λ q. ⌜ Appended (now (ids .entry)) (tab (copiedSlot (idsOf (now (codes .entry)) (now («escape_places» .entry)) (now («escape_ids» .entry)) base) start (now («slot_labels» .entry)) (now («slot_weak» .entry)) keeps first) count) from q (now (targets .entry)) (now (labels .entry)) (now (weak .entry)) (now (targets .exit)) (now (labels .exit)) (now (weak .exit)) ⌝ }
+{
+    let mut s = from;
+    let mut cursor = row;
+    let mut k = 0;
+    while k < count {
+        let read = id_from(codes, escape_places, escape_ids, base, start + k, cursor);
+        cursor = read.row;
+        s = append::append_slot(
+            s,
+            ids,
+            slot_labels,
+            slot_weak,
+            keeps,
+            first + k,
+            read.id,
+            hints,
+            scale,
+            targets,
+            labels,
+            weak,
+        );
+        k += 1;
+    }
+    s
+}
+
+// The first `count` elements, whose ids stand from `start` on.
+fn elements(
+    from: Pass,
+    ids: &[u64],
+    codes: &[u32],
+    escape_places: &[u64],
+    escape_ids: &[u64],
+    base: u64,
+    start: usize,
+    row: usize,
+    count: usize,
+    hints: &[u16],
+    scale: u32,
+    targets: &mut [u32],
+    labels: &mut [u32],
+    weak: &mut [u32],
+) -> Pass
+    requires { ⌜ Rises (now «escape_places») ⌝ }
+    requires { ⌜ (count ≤ 2 ^ 31) × (start + count < 2 ^ 64) ⌝ }
+    requires { ⌜ Room (now ids) (tab (copiedElement (idsOf (now codes) (now «escape_places») (now «escape_ids») base) start) count) from (length (now targets)) (length (now labels)) (length (now weak)) ⌝ }
+    ensures { λ q. ⌜ Appended (now (ids .entry)) (tab (copiedElement (idsOf (now (codes .entry)) (now («escape_places» .entry)) (now («escape_ids» .entry)) base) start) count) from q (now (targets .entry)) (now (labels .entry)) (now (weak .entry)) (now (targets .exit)) (now (labels .exit)) (now (weak .exit)) ⌝ }
+{
+    let mut s = from;
+    let mut cursor = row;
+    let mut k = 0;
+    while k < count {
+        let read = id_from(codes, escape_places, escape_ids, base, start + k, cursor);
+        cursor = read.row;
+        s = append::append_element(s, ids, k, read.id, hints, scale, targets, labels, weak);
+        k += 1;
+    }
+    s
+}
+
+// The slots of an object, none unless it is an instance: "class is read for instances only".
+pub fn object_slots(
+    s: Pass,
+    ids: &[u64],
+    codes: &[u32],
+    escape_places: &[u64],
+    escape_ids: &[u64],
+    base: u64,
+    start: usize,
+    row: usize,
+    class_kinds: &[u8],
+    slot_start: &[u32],
+    slot_end: &[u32],
+    slot_labels: &[u32],
+    slot_weak: &[u8],
+    policy: rules::ReferencePolicy,
+    kind: u8,
+    class: usize,
+    hints: &[u16],
+    scale: u32,
+    targets: &mut [u32],
+    labels: &mut [u32],
+    weak: &mut [u32],
+) -> Pass
+    requires { ⌜ Rises (now «escape_places») ⌝ }
+    requires { ⌜ SlotsIn (now «class_kinds») (now «slot_start») (now «slot_end») (length (now «slot_labels»)) (length (now «slot_weak»)) kind class start ⌝ }
+    requires { ⌜ Room (now ids) (copiedSlots (idsOf (now codes) (now «escape_places») (now «escape_ids») base) start (now «class_kinds») (now «slot_start») (now «slot_end») (now «slot_labels») (now «slot_weak») policy kind class) s (length (now targets)) (length (now labels)) (length (now weak)) ⌝ }
+    ensures { λ q. ⌜ Appended (now (ids .entry)) (copiedSlots (idsOf (now (codes .entry)) (now («escape_places» .entry)) (now («escape_ids» .entry)) base) start (now («class_kinds» .entry)) (now («slot_start» .entry)) (now («slot_end» .entry)) (now («slot_labels» .entry)) (now («slot_weak» .entry)) policy kind class) s q (now (targets .entry)) (now (labels .entry)) (now (weak .entry)) (now (targets .exit)) (now (labels .exit)) (now (weak .exit)) ⌝ }
+{
+    if kind != rules::Kind::INSTANCE {
+        return s;
+    }
+    let keeps = policy.keeps(class_kinds[class]);
+    let first = columns::index(slot_start[class]);
+    let count = columns::index(slot_end[class]) - first;
+    slots(
+        s,
+        ids,
+        codes,
+        escape_places,
+        escape_ids,
+        base,
+        start,
+        row,
+        slot_labels,
+        slot_weak,
+        keeps,
+        first,
+        count,
+        hints,
+        scale,
+        targets,
+        labels,
+        weak,
+    )
+}
+
+// The elements of an object, none unless it is an array of objects.
+pub fn object_elements(
+    s: Pass,
+    ids: &[u64],
+    codes: &[u32],
+    escape_places: &[u64],
+    escape_ids: &[u64],
+    base: u64,
+    start: usize,
+    row: usize,
+    kind: u8,
+    count: usize,
+    hints: &[u16],
+    scale: u32,
+    targets: &mut [u32],
+    labels: &mut [u32],
+    weak: &mut [u32],
+) -> Pass
+    requires { ⌜ Rises (now «escape_places») ⌝ }
+    requires { ⌜ (kind ≡ 1 → (count ≤ 2 ^ 31) × (start + count < 2 ^ 64)) ⌝ }
+    requires { ⌜ Room (now ids) (copiedElements (idsOf (now codes) (now «escape_places») (now «escape_ids») base) start kind count) s (length (now targets)) (length (now labels)) (length (now weak)) ⌝ }
+    ensures { λ q. ⌜ Appended (now (ids .entry)) (copiedElements (idsOf (now (codes .entry)) (now («escape_places» .entry)) (now («escape_ids» .entry)) base) start kind count) s q (now (targets .entry)) (now (labels .entry)) (now (weak .entry)) (now (targets .exit)) (now (labels .exit)) (now (weak .exit)) ⌝ }
+{
+    if kind != rules::Kind::OBJECT_ARRAY {
+        return s;
+    }
+    elements(
+        s,
+        ids,
+        codes,
+        escape_places,
+        escape_ids,
+        base,
+        start,
+        row,
+        count,
+        hints,
+        scale,
+        targets,
+        labels,
+        weak,
+    )
+}

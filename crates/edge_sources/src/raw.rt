@@ -1,0 +1,238 @@
+// The slots of an instance and the elements of an array by the raw route: their ids are read from bodies, over the id size.
+use edge_append::Pass;
+use edge_append::append;
+ghost use mathlib.Core.Path.{_≡_};
+ghost use Prim.Native.Nat.{_+_, _*_, _^_, _≤_, _<_};
+ghost use lib.ListN.{length};
+ghost use Rattle.columns.specs.Lists.{part, tab};
+ghost use Rattle.rules.specs.Input.{bigEndian};
+ghost use Rattle.edge_append.specs.Append.{Room, Appended};
+ghost use Rattle.edge_append.specs.Held.{SlotsIn};
+ghost use Rattle.edge_append.specs.Raw.{BodyIn, rawSlot, slotsRead, rawElement, rawSlots, rawElements};
+
+fn wide(x: u8) -> u64
+    ensures { λ r. ⌜ (r ≡ x) × (r < 256) ⌝ }
+{
+    x as u64
+}
+
+// An offset leaves room for an id behind it.
+fn spot_of(offset: u32) -> usize
+    ensures { λ r. ⌜ (r ≡ offset) × (r < 2 ^ 32) ⌝ }
+{
+    offset as usize
+}
+
+// The number that `size` bytes from `at` on write, highest byte first, one after another.
+fn id_by_bytes(bytes: &[u8], at: usize, size: usize) -> u64
+    requires { ⌜ (at + size ≤ length (now bytes)) × (size ≤ 8) ⌝ }
+    ensures { λ r. ⌜ r ≡ bigEndian 0 (part (now (bytes .entry)) at (at + size)) ⌝ }
+{
+    let mut high: u64 = 0;
+    let mut k = 0;
+    while k < size {
+        high = high * 256 + wide(bytes[at + k]);
+        k += 1;
+    }
+    high
+}
+
+// The number that four bytes from `at` on write: in a straight line, since the compiler makes one load and one swap of it.
+fn word(bytes: &[u8], at: usize) -> u64
+    requires { ⌜ at + 4 ≤ length (now bytes) ⌝ }
+    ensures { λ r. ⌜ (r ≡ bigEndian 0 (part (now (bytes .entry)) at (at + 4))) × (r < 2 ^ 32) ⌝ }
+{
+    wide(bytes[at]) * 16777216
+        + wide(bytes[at + 1]) * 65536
+        + wide(bytes[at + 2]) * 256
+        + wide(bytes[at + 3])
+}
+
+// The number that the bytes from `at` on write, highest byte first. The two sizes that ids have are read without a loop.
+pub fn id_at_bytes(bytes: &[u8], at: usize, size: usize) -> u64
+    requires { ⌜ (at + size ≤ length (now bytes)) × (size ≤ 8) ⌝ }
+    ensures { λ r. ⌜ r ≡ bigEndian 0 (part (now (bytes .entry)) at (at + size)) ⌝ }
+{
+    if size == 8 {
+        return word(bytes, at) * 4294967296 + word(bytes, at + 4);
+    }
+    if size == 4 {
+        return word(bytes, at);
+    }
+    id_by_bytes(bytes, at, size)
+}
+
+// The slots from `first` on of a body that stands from `start` on. "Reading stops at the first slot that ends past the body."
+fn slots(
+    from: Pass,
+    ids: &[u64],
+    bytes: &[u8],
+    size: usize,
+    start: usize,
+    body: usize,
+    slot_offsets: &[u32],
+    slot_labels: &[u32],
+    slot_weak: &[u8],
+    keeps: bool,
+    first: usize,
+    count: usize,
+    hints: &[u16],
+    scale: u32,
+    targets: &mut [u32],
+    labels: &mut [u32],
+    weak: &mut [u32],
+) -> Pass
+    requires { ⌜ (first + count ≤ length (now «slot_offsets»)) × (first + count ≤ length (now «slot_labels»)) × (first + count ≤ length (now «slot_weak»)) ⌝ }
+    requires { ⌜ BodyIn (length (now bytes)) size start body ⌝ }
+    requires { ⌜ Room (now ids) (tab (rawSlot (now bytes) size start (now «slot_offsets») (now «slot_labels») (now «slot_weak») keeps first) (slotsRead (now «slot_offsets») size body first count)) from (length (now targets)) (length (now labels)) (length (now weak)) ⌝ }
+    ensures { λ q. ⌜ Appended (now (ids .entry)) (tab (rawSlot (now (bytes .entry)) size start (now («slot_offsets» .entry)) (now («slot_labels» .entry)) (now («slot_weak» .entry)) keeps first) (slotsRead (now («slot_offsets» .entry)) size body first count)) from q (now (targets .entry)) (now (labels .entry)) (now (weak .entry)) (now (targets .exit)) (now (labels .exit)) (now (weak .exit)) ⌝ }
+{
+    let mut s = from;
+    let mut k = 0;
+    while k < count {
+        let spot = spot_of(slot_offsets[first + k]);
+        if body < spot + size {
+            return s;
+        }
+        let id = id_at_bytes(bytes, start + spot, size);
+        s = append::append_slot(
+            s,
+            ids,
+            slot_labels,
+            slot_weak,
+            keeps,
+            first + k,
+            id,
+            hints,
+            scale,
+            targets,
+            labels,
+            weak,
+        );
+        k += 1;
+    }
+    s
+}
+
+// The first `count` elements of a body that stands from `start` on: element k stands behind k ids.
+fn elements(
+    from: Pass,
+    ids: &[u64],
+    bytes: &[u8],
+    size: usize,
+    start: usize,
+    count: usize,
+    hints: &[u16],
+    scale: u32,
+    targets: &mut [u32],
+    labels: &mut [u32],
+    weak: &mut [u32],
+) -> Pass
+    requires { ⌜ (count ≤ 2 ^ 31) × (size ≤ 8) × (start + count * size ≤ length (now bytes)) ⌝ }
+    requires { ⌜ Room (now ids) (tab (rawElement (now bytes) size start) count) from (length (now targets)) (length (now labels)) (length (now weak)) ⌝ }
+    ensures { λ q. ⌜ Appended (now (ids .entry)) (tab (rawElement (now (bytes .entry)) size start) count) from q (now (targets .entry)) (now (labels .entry)) (now (weak .entry)) (now (targets .exit)) (now (labels .exit)) (now (weak .exit)) ⌝ }
+{
+    let mut s = from;
+    let mut at = start;
+    let mut k = 0;
+    while k < count {
+        let id = id_at_bytes(bytes, at, size);
+        s = append::append_element(s, ids, k, id, hints, scale, targets, labels, weak);
+        at += size;
+        k += 1;
+    }
+    s
+}
+
+// The slots of an object, none unless it is an instance.
+pub fn object_slots(
+    s: Pass,
+    ids: &[u64],
+    bytes: &[u8],
+    size: usize,
+    start: usize,
+    body: usize,
+    class_kinds: &[u8],
+    slot_start: &[u32],
+    slot_end: &[u32],
+    slot_offsets: &[u32],
+    slot_labels: &[u32],
+    slot_weak: &[u8],
+    policy: rules::ReferencePolicy,
+    kind: u8,
+    class: usize,
+    hints: &[u16],
+    scale: u32,
+    targets: &mut [u32],
+    labels: &mut [u32],
+    weak: &mut [u32],
+) -> Pass
+    requires { ⌜ SlotsIn (now «class_kinds») (now «slot_start») (now «slot_end») (length (now «slot_labels»)) (length (now «slot_weak»)) kind class 0 ⌝ }
+    requires { ⌜ length (now «slot_offsets») ≡ length (now «slot_labels») ⌝ }
+    requires { ⌜ (kind ≡ 0 → BodyIn (length (now bytes)) size start body) ⌝ }
+    requires { ⌜ Room (now ids) (rawSlots (now bytes) size start body (now «class_kinds») (now «slot_start») (now «slot_end») (now «slot_offsets») (now «slot_labels») (now «slot_weak») policy kind class) s (length (now targets)) (length (now labels)) (length (now weak)) ⌝ }
+    ensures { λ q. ⌜ Appended (now (ids .entry)) (rawSlots (now (bytes .entry)) size start body (now («class_kinds» .entry)) (now («slot_start» .entry)) (now («slot_end» .entry)) (now («slot_offsets» .entry)) (now («slot_labels» .entry)) (now («slot_weak» .entry)) policy kind class) s q (now (targets .entry)) (now (labels .entry)) (now (weak .entry)) (now (targets .exit)) (now (labels .exit)) (now (weak .exit)) ⌝ }
+{
+    if kind != rules::Kind::INSTANCE {
+        return s;
+    }
+    let keeps = policy.keeps(class_kinds[class]);
+    let first = columns::index(slot_start[class]);
+    let count = columns::index(slot_end[class]) - first;
+    slots(
+        s,
+        ids,
+        bytes,
+        size,
+        start,
+        body,
+        slot_offsets,
+        slot_labels,
+        slot_weak,
+        keeps,
+        first,
+        count,
+        hints,
+        scale,
+        targets,
+        labels,
+        weak,
+    )
+}
+
+// The elements of an object, none unless it is an array of objects.
+pub fn object_elements(
+    s: Pass,
+    ids: &[u64],
+    bytes: &[u8],
+    size: usize,
+    start: usize,
+    kind: u8,
+    count: usize,
+    hints: &[u16],
+    scale: u32,
+    targets: &mut [u32],
+    labels: &mut [u32],
+    weak: &mut [u32],
+) -> Pass
+    requires { ⌜ (kind ≡ 1 → (count ≤ 2 ^ 31) × (size ≤ 8) × (start + count * size ≤ length (now bytes))) ⌝ }
+    requires { ⌜ Room (now ids) (rawElements (now bytes) size start kind count) s (length (now targets)) (length (now labels)) (length (now weak)) ⌝ }
+    ensures { λ q. ⌜ Appended (now (ids .entry)) (rawElements (now (bytes .entry)) size start kind count) s q (now (targets .entry)) (now (labels .entry)) (now (weak .entry)) (now (targets .exit)) (now (labels .exit)) (now (weak .exit)) ⌝ }
+{
+    if kind != rules::Kind::OBJECT_ARRAY {
+        return s;
+    }
+    elements(
+        s,
+        ids,
+        bytes,
+        size,
+        start,
+        count,
+        hints,
+        scale,
+        targets,
+        labels,
+        weak,
+    )
+}

@@ -1,0 +1,4 @@
+pub mod Layers
+pub mod Capped
+pub mod Uncoded
+pub mod Theorems

@@ -1,0 +1,129 @@
+// The weak pairs by the copied route.
+use super::pair_to;
+use edge_sources::copied::id_held;
+ghost use mathlib.Core.Path.{_≡_};
+ghost use mathlib.Core.List.{[]};
+ghost use mathlib.Core.Bool.{false};
+ghost use Prim.Native.Nat.{ℕ, _+_, _^_, _≤_, _<_};
+ghost use lib.ListN.{length};
+ghost use Rattle.columns.specs.Lists.{tab, _!_};
+ghost use Rattle.columns.specs.Ranks.{Rises};
+ghost use Rattle.index.specs.Copied.{idsOf};
+ghost use Rattle.edge_append.specs.Held.{copiedSlot, SlotsIn};
+ghost use Rattle.need_weak.specs.Pairs.{pairsIn, Few, copiedPairs, copiedTotal, ObjectsIn};
+
+// The pairs of the first `count` slots from `first` on, of a class whose kind is not kept; their ids stand from `start` on.
+fn slots(
+    ids: &[u64],
+    codes: &[u32],
+    escape_places: &[u64],
+    escape_ids: &[u64],
+    base: u64,
+    start: usize,
+    slot_weak: &[u8],
+    first: usize,
+    count: usize,
+    guess: usize,
+) -> usize
+    requires { ⌜ Rises (now ids) × (first + count ≤ length (now «slot_weak»)) × (start + count < 2 ^ 64) ⌝ }
+    ensures { λ r. ⌜ Few (pairsIn (now (ids .entry)) (tab (copiedSlot (idsOf (now (codes .entry)) (now («escape_places» .entry)) (now («escape_ids» .entry)) base) start [] (now («slot_weak» .entry)) false first) count)) count r ⌝ }
+{
+    let mut n = 0;
+    let mut k = 0;
+    while k < count {
+        if slot_weak[first + k] == 1 {
+            let id = id_held(codes, escape_places, escape_ids, base, start + k);
+            n += pair_to(ids, id, guess);
+            k += 1;
+        } else {
+            k += 1;
+        }
+    }
+    n
+}
+
+// The pairs of one object: none unless it is an instance, and none where its class's kind is kept.
+fn object(
+    ids: &[u64],
+    codes: &[u32],
+    escape_places: &[u64],
+    escape_ids: &[u64],
+    base: u64,
+    start: usize,
+    class_kinds: &[u8],
+    slot_start: &[u32],
+    slot_end: &[u32],
+    slot_weak: &[u8],
+    policy: rules::ReferencePolicy,
+    kind: u8,
+    class: usize,
+    guess: usize,
+) -> usize
+    requires { ⌜ Rises (now ids) × SlotsIn (now «class_kinds») (now «slot_start») (now «slot_end») (length (now «slot_weak»)) (length (now «slot_weak»)) kind class start ⌝ }
+    ensures { λ r. ⌜ Few (copiedPairs (now (ids .entry)) (idsOf (now (codes .entry)) (now («escape_places» .entry)) (now («escape_ids» .entry)) base) start (now («class_kinds» .entry)) (now («slot_start» .entry)) (now («slot_end» .entry)) (now («slot_weak» .entry)) policy kind class) (length (now («slot_weak» .entry))) r ⌝ }
+{
+    if kind != rules::Kind::INSTANCE {
+        return 0;
+    }
+    if policy.keeps(class_kinds[class]) {
+        return 0;
+    }
+    let first = columns::index(slot_start[class]);
+    let count = columns::index(slot_end[class]) - first;
+    slots(
+        ids,
+        codes,
+        escape_places,
+        escape_ids,
+        base,
+        start,
+        slot_weak,
+        first,
+        count,
+        guess,
+    )
+}
+
+// The need of buffer 2.
+pub fn count_weak_copied(
+    ids: &[u64],
+    kinds: &[u8],
+    classes: &[u32],
+    starts: &[u32],
+    codes: &[u32],
+    escape_places: &[u64],
+    escape_ids: &[u64],
+    base: u64,
+    class_kinds: &[u8],
+    slot_start: &[u32],
+    slot_end: &[u32],
+    slot_weak: &[u8],
+    policy: rules::ReferencePolicy,
+) -> usize
+    requires { ⌜ ObjectsIn (now ids) (now kinds) (now classes) (now starts) × (length (now «slot_weak») ≤ 268435456) ⌝ }
+    requires { ⌜ ((o : ℕ) → o < length (now ids) → SlotsIn (now «class_kinds») (now «slot_start») (now «slot_end») (length (now «slot_weak»)) (length (now «slot_weak»)) (now kinds ! o) (now classes ! o) (now starts ! o)) ⌝ }
+    ensures { λ r. ⌜ r ≡ copiedTotal (now (ids .entry)) (now (kinds .entry)) (now (classes .entry)) (now (starts .entry)) (idsOf (now (codes .entry)) (now («escape_places» .entry)) (now («escape_ids» .entry)) base) (now («class_kinds» .entry)) (now («slot_start» .entry)) (now («slot_end» .entry)) (now («slot_weak» .entry)) policy (length (now (ids .entry))) ⌝ }
+{
+    let mut n: usize = 0;
+    let mut o = 0;
+    while o < ids.len() {
+        n += object(
+            ids,
+            codes,
+            escape_places,
+            escape_ids,
+            base,
+            columns::index(starts[o]),
+            class_kinds,
+            slot_start,
+            slot_end,
+            slot_weak,
+            policy,
+            kinds[o],
+            columns::index(classes[o]),
+            o,
+        );
+        o += 1;
+    }
+    n
+}

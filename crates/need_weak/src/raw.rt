@@ -1,0 +1,145 @@
+// The weak pairs by the raw route.
+use super::pair_to;
+use edge_sources::raw::id_at_bytes;
+ghost use mathlib.Core.Path.{_≡_};
+ghost use mathlib.Core.List.{[]};
+ghost use mathlib.Core.Bool.{false};
+ghost use Prim.Native.Nat.{ℕ, _+_, _≤_, _<_};
+ghost use lib.Dec.{ltb};
+ghost use lib.ListN.{length};
+ghost use Rattle.columns.specs.Lists.{tab, _!_};
+ghost use Rattle.columns.specs.Ranks.{Rises};
+ghost use Rattle.edge_append.specs.Held.{SlotsIn};
+ghost use Rattle.edge_append.specs.Raw.{rawSlot, slotsRead, BodyIn};
+ghost use Rattle.need_weak.specs.Pairs.{pairsIn, Few, rawPairs, rawTotal, ObjectsIn};
+
+// The slot at this offset ends past the body.
+fn ends_past(offset: u32, size: usize, body: usize) -> bool
+    requires { ⌜ size ≤ 8 ⌝ }
+    ensures { λ r. ⌜ r ≡ ltb body (offset + size) ⌝ }
+{
+    body < columns::index(offset) + size
+}
+
+// The pairs of the slots from `first` on of a body that stands from `start` on, of a class whose kind is not kept. "Reading stops at the first slot that
+// ends past the body."
+fn slots(
+    ids: &[u64],
+    bytes: &[u8],
+    size: usize,
+    start: usize,
+    body: usize,
+    slot_offsets: &[u32],
+    slot_weak: &[u8],
+    first: usize,
+    count: usize,
+    guess: usize,
+) -> usize
+    requires { ⌜ Rises (now ids) × (first + count ≤ length (now «slot_offsets»)) × (first + count ≤ length (now «slot_weak»)) × BodyIn (length (now bytes)) size start body ⌝ }
+    ensures { λ r. ⌜ Few (pairsIn (now (ids .entry)) (tab (rawSlot (now (bytes .entry)) size start (now («slot_offsets» .entry)) [] (now («slot_weak» .entry)) false first) (slotsRead (now («slot_offsets» .entry)) size body first count))) count r ⌝ }
+{
+    let mut n = 0;
+    let mut k = 0;
+    while k < count {
+        let offset = slot_offsets[first + k];
+        if ends_past(offset, size, body) {
+            return n;
+        }
+        if slot_weak[first + k] == 1 {
+            let id = id_at_bytes(bytes, start + columns::index(offset), size);
+            n += pair_to(ids, id, guess);
+            k += 1;
+        } else {
+            k += 1;
+        }
+    }
+    n
+}
+
+// The pairs of one object.
+fn object(
+    ids: &[u64],
+    bytes: &[u8],
+    size: usize,
+    start: usize,
+    body: usize,
+    class_kinds: &[u8],
+    slot_start: &[u32],
+    slot_end: &[u32],
+    slot_offsets: &[u32],
+    slot_weak: &[u8],
+    policy: rules::ReferencePolicy,
+    kind: u8,
+    class: usize,
+    guess: usize,
+) -> usize
+    requires { ⌜ Rises (now ids) × SlotsIn (now «class_kinds») (now «slot_start») (now «slot_end») (length (now «slot_offsets»)) (length (now «slot_weak»)) kind class 0 ⌝ }
+    requires { ⌜ (kind ≡ 0 → BodyIn (length (now bytes)) size start body) ⌝ }
+    ensures { λ r. ⌜ Few (rawPairs (now (ids .entry)) (now (bytes .entry)) size start body (now («class_kinds» .entry)) (now («slot_start» .entry)) (now («slot_end» .entry)) (now («slot_offsets» .entry)) (now («slot_weak» .entry)) policy kind class) (length (now («slot_weak» .entry))) r ⌝ }
+{
+    if kind != rules::Kind::INSTANCE {
+        return 0;
+    }
+    if policy.keeps(class_kinds[class]) {
+        return 0;
+    }
+    let first = columns::index(slot_start[class]);
+    let count = columns::index(slot_end[class]) - first;
+    slots(
+        ids,
+        bytes,
+        size,
+        start,
+        body,
+        slot_offsets,
+        slot_weak,
+        first,
+        count,
+        guess,
+    )
+}
+
+// The need of buffer 2.
+pub fn count_weak_raw(
+    ids: &[u64],
+    kinds: &[u8],
+    classes: &[u32],
+    starts: &[u64],
+    bodies: &[u32],
+    bytes: &[u8],
+    size: usize,
+    class_kinds: &[u8],
+    slot_start: &[u32],
+    slot_end: &[u32],
+    slot_offsets: &[u32],
+    slot_weak: &[u8],
+    policy: rules::ReferencePolicy,
+) -> usize
+    requires { ⌜ ObjectsIn (now ids) (now kinds) (now classes) (now starts) × (length (now ids) ≤ length (now bodies)) × (length (now «slot_weak») ≤ 268435456) ⌝ }
+    requires { ⌜ ((o : ℕ) → o < length (now ids) → SlotsIn (now «class_kinds») (now «slot_start») (now «slot_end») (length (now «slot_offsets»)) (length (now «slot_weak»)) (now kinds ! o) (now classes ! o) 0) ⌝ }
+    requires { ⌜ ((o : ℕ) → o < length (now ids) → now kinds ! o ≡ 0 → BodyIn (length (now bytes)) size (now starts ! o) (now bodies ! o)) ⌝ }
+    ensures { λ r. ⌜ r ≡ rawTotal (now (ids .entry)) (now (kinds .entry)) (now (classes .entry)) (now (starts .entry)) (now (bodies .entry)) (now (bytes .entry)) size (now («class_kinds» .entry)) (now («slot_start» .entry)) (now («slot_end» .entry)) (now («slot_offsets» .entry)) (now («slot_weak» .entry)) policy (length (now (ids .entry))) ⌝ }
+{
+    let mut n: usize = 0;
+    let mut o = 0;
+    while o < ids.len() {
+        n += object(
+            ids,
+            bytes,
+            size,
+            starts[o] as usize,
+            columns::index(bodies[o]),
+            class_kinds,
+            slot_start,
+            slot_end,
+            slot_offsets,
+            slot_weak,
+            policy,
+            kinds[o],
+            columns::index(classes[o]),
+            o,
+        );
+        o += 1;
+    }
+    n
+}

@@ -1,6 +1,0 @@
-pub mod Distinct
-pub mod Marking
-pub mod Layers
-pub mod Capped
-pub mod Uncoded
-pub mod Theorems
