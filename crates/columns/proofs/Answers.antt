@@ -12,3 +12,7 @@ pub past : (t : Bool) (k : ℕ) (place rest : List ℕ) → accepts (cond t (suc
 unfolding accepts
 past true k place rest h = absurd (true≢false (sym h ∙ ne-eqb (suc k) 0 (λ e. omega arith)))
 past false k place rest h = (refl, h)
+
+pub accepting : (values : List ℕ) → accepts (0 ∷ values) ≡ true
+unfolding accepts
+accepting values = refl

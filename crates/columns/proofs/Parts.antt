@@ -5,9 +5,9 @@ use mathlib.Core.Bool.{Bool}
 use mathlib.Core.List.{List, _++_, append-assoc, append-nil}
 use Prim.Native.Nat.{ℕ, zero, suc, _+_, _-_, _≤_, _<_}
 use native.Mathlib.Omega.{arith}
-use lib.ListN.{length, take, drop, length-append, length-drop, drop-of-length-le}
+use lib.ListN.{length, getD, take, drop, length-append, length-drop, drop-of-length-le}
 use lib.Seq.{take-at, drop-at, drop-drop}
-use Rattle.columns.specs.Lists.{_!_, places, part}
+use Rattle.columns.specs.Lists.{_!_, places, firstPlace, part}
 use Rattle.columns.specs.Columns.{over}
 use Rattle.columns.proofs.Lists.{lt-or-ge}
 use Rattle.columns.proofs.Sums.{collect-ext, part-length}
@@ -41,3 +41,7 @@ never-falls xs (suc n) h i l = go (lt-or-ge i (suc n)) (never-falls xs n (λ j m
     go : (i < suc n) ⊎ (suc n ≤ i) → (i ≤ n → xs ! i ≤ xs ! n) → xs ! i ≤ xs ! suc n
     go (inl m) ih = omega (arith, ih (omega arith), h n (omega arith))
     go (inr m) ih = let e : i ≡ suc n = omega arith in rw e (omega arith)
+
+-- and so is the lowest of them
+pub first-ext : (s t : ℕ → Bool) (n : ℕ) → ((i : ℕ) → i < n → s i ≡ t i) → firstPlace s n ≡ firstPlace t n
+first-ext s t n h = ap (λ (xs : List ℕ). getD xs 0 n) (places-ext s t n h)

@@ -3,7 +3,8 @@ use mathlib.Core.Path.{_≡_, refl, sym, ap, _∙_}
 use mathlib.Core.Logic.{_⊎_, inl, inr, ⊎-elim}
 use mathlib.Core.List.{List, [], _∷_}
 use Prim.Native.Nat.{ℕ, zero, suc, _+_, _-_, _/_, _≤_, _<_, zero-le}
-use native.Mathlib.Nat.{not-suc-le-zero}
+use native.Mathlib.Nat.{add-suc, not-suc-le-zero}
+use native.Mathlib.Numerals.{add-one}
 use native.Mathlib.Omega.{arith}
 use borrow.Author.Tests.{lt-ltb, le-ltb}
 use lib.Dec.{ltb}
@@ -189,3 +190,16 @@ module _ (xs : List ℕ) (x k : ℕ) (rise : Rises xs) (e : k ≡ rank xs x) whe
     where
       above : x ≤ xs ! k → (xs ! k ≡ x → ⊥) → x + 1 ≤ xs ! k
       above h n = ⊎-elim (λ l. omega arith) (λ l. absurd (n (omega arith))) (lt-or-ge x (xs ! k))
+
+-- a column in which each number is below the next rises; past its end it reads 0
+climb : (xs : List ℕ) → ((i : ℕ) → suc i < length xs → xs ! i < xs ! suc i) → (i k : ℕ) → i + suc k < length xs → xs ! i < xs ! (i + suc k)
+climb xs up i zero l = rw (add-one i) (up i (omega arith))
+climb xs up i (suc k) l = rw (add-suc i (suc k)) (omega (arith, climb xs up i k (omega arith), up (i + suc k) (omega arith)))
+
+pub steps-rise : (xs : List ℕ) → ((i : ℕ) → suc i < length xs → xs ! i < xs ! suc i) → Rises xs
+steps-rise xs up i j l m = let e : j ≡ i + suc (j - suc i) = omega arith in rw e (climb xs up i (j - suc i) (omega arith))
+
+pub past-end : (xs : List ℕ) (i : ℕ) → length xs ≤ i → xs ! i ≡ 0
+past-end [] i l = refl
+past-end (x ∷ xs) zero l = absurd (omega arith)
+past-end (x ∷ xs) (suc i) l = past-end xs i (omega arith)

@@ -1,16 +1,17 @@
 -- Sums, lengths and parts of collected lists and tables. Assumes nothing.
-use Prim.Native.Nat.{ℕ, zero, suc, _+_, _-_, _≤_, _<_}
+use Prim.Native.Nat.{ℕ, zero, suc, _+_, _-_, _≤_, _<_, zero-le, suc-le-suc}
 use native.Mathlib.Nat.{add-zero, zero-add, add-suc, le-refl, not-suc-le-zero}
+use native.Mathlib.Numerals.{add-one}
 use native.Mathlib.Omega.{arith}
 use native.Mathlib.Decide.{decLt}
 use borrow.Author.Tests.{eq-eqb, ne-eqb}
 use lib.Dec.{eqb}
 use lib.Seq.{ext-getD, getD-take, getD-drop, getD-append-add}
 use mathlib.Core.Path.{_≡_, refl, sym, ap, ap₂, _∙_}
-use mathlib.Core.Bool.{Bool, true, false, cond}
+use mathlib.Core.Bool.{Bool, true, false, cond, _&&_}
 use mathlib.Core.List.{List, [], _∷_, _++_, map, append-assoc, append-nil}
 use lib.ListN.{length, getD, drop, length-append, length-take, length-drop, List·getD-append}
-use Rattle.columns.specs.Lists.{_!_, collect, tab, total, flat, sum, insert, sort, part}
+use Rattle.columns.specs.Lists.{_!_, collect, tab, total, flat, sum, one, count, leading, insert, sort, part}
 
 module _ {A : Type 0} (f : A → ℕ) where
   pub sum-append : (xs ys : List A) → sum f (xs ++ ys) ≡ sum f xs + sum f ys
@@ -171,3 +172,52 @@ part-collect f n o h =
     ext-getD 0 (part (collect f n) (t o) (t o + length (f o))) (f o) size
     (λ k l. getD-take (t o + length (f o) - t o) (drop (t o) (collect f n)) k 0 (omega arith) ∙ getD-drop (t o) (collect f n) k 0
     ∙ getD-collect f 0 n o k h (omega arith))
+
+-- sorting keeps the length
+pub length-sort : {A : Type 0} (le : A → A → Bool) (xs : List A) → length (sort le xs) ≡ length xs
+length-sort le xs = sym (sum-one (sort le xs)) ∙ sum-sort (λ a. 1) le xs ∙ sum-one xs
+
+-- what is collected, or summed, up to a place and behind it
+pub collect-cut : {A : Type 0} (f : ℕ → List A) (m n : ℕ) → collect f (m + n) ≡ collect f m ++ collect (λ i. f (m + i)) n
+collect-cut f m zero = rw (add-zero m) (sym (append-nil (collect f m)))
+collect-cut {A} f m (suc n) =
+    rw (add-suc m n) (ap (λ (l : List A). l ++ f (m + n)) (collect-cut f m n) ∙ append-assoc (collect f m) (collect (λ i. f (m + i)) n) (f (m + n)))
+
+pub total-cut : (f : ℕ → ℕ) (m n : ℕ) → total f (m + n) ≡ total f m + total (λ i. f (m + i)) n
+total-cut f m zero = rw (add-zero m) (sym (add-zero _))
+total-cut f m (suc n) = rw (add-suc m n) (omega (arith, total-cut f m n))
+
+-- a sum one number further, and at its end
+pub total-more : (f : ℕ → ℕ) (n : ℕ) {s v : ℕ} → s ≡ total f n → v ≡ f n → s + v ≡ total f (n + 1)
+total-more f n e d = rw (add-one n, e, d)
+
+pub total-end : (f : ℕ → ℕ) {n i s : ℕ} → s ≡ total f i → i ≤ n → n ≤ i → s ≡ total f n
+total-end f {n} {i} e l m = let q : i ≡ n = omega arith in rw (← q) e
+
+pub one-few : (b : Bool) → one b ≤ 1
+one-few true = omega arith
+one-few false = omega arith
+
+-- a number below all of a list does not stand in it
+pub count-none : (v : ℕ) (xs : List ℕ) → ((j : ℕ) → j < length xs → v < xs ! j) → count v xs ≡ 0
+count-none v [] h = refl
+count-none v (a ∷ xs) h =
+    let l : v < a = h 0 (suc-le-suc zero-le) in
+    rw (ne-eqb a v (λ e. omega arith)) (omega (arith, count-none v xs (λ j k. h (suc j) (suc-le-suc k))))
+
+-- how many places pass before one fails: no more than there are, all where all pass, and as many by an equal test
+pub leading-within : (t : ℕ → Bool) (n : ℕ) → leading t n ≤ n
+leading-within t zero = zero-le
+leading-within t (suc n) = go (eqb (leading t n) n && t n) (leading-within t n)
+  where
+    go : (b : Bool) → leading t n ≤ n → cond b (suc n) (leading t n) ≤ suc n
+    go true l = omega arith
+    go false l = omega arith
+
+pub leading-all : (t : ℕ → Bool) (n : ℕ) → ((k : ℕ) → t k ≡ true) → leading t n ≡ n
+leading-all t zero h = refl
+leading-all t (suc n) h = rw (leading-all t n h, h n, eq-eqb n n refl)
+
+pub leading-ext : (t u : ℕ → Bool) (n : ℕ) → ((k : ℕ) → t k ≡ u k) → leading t n ≡ leading u n
+leading-ext t u zero h = refl
+leading-ext t u (suc n) h = rw (leading-ext t u n h, h n)

@@ -1,11 +1,12 @@
 -- Tests: what follows where some of several hold, or none does. Assumes nothing.
-use Prim.Native.Nat.{ℕ, zero, suc, _<_}
+use Prim.Native.Nat.{ℕ, zero, suc, _+_, _<_}
 use native.Mathlib.Nat.{not-suc-le-zero}
+use native.Mathlib.Numerals.{add-one}
 use native.Mathlib.Omega.{arith}
 use native.Mathlib.Decide.{decLt}
 use mathlib.Core.Path.{_≡_, refl}
 use mathlib.Core.Logic.{⊎-elim}
-use mathlib.Core.Bool.{Bool, true, false, cond, _||_}
+use mathlib.Core.Bool.{Bool, true, false, cond, _&&_, _||_}
 use mathlib.Core.List.{List, [], _∷_, _++_, map}
 use lib.ListN.{length, getD}
 use Rattle.columns.proofs.Lists.{lt-or-ge}
@@ -125,3 +126,28 @@ pub some-any : (t : ℕ → Bool) (n i : ℕ) → i < n → t i ≡ true → any
 unfolding any
 some-any t zero i l h = absurd (not-suc-le-zero l)
 some-any t (suc n) i l h = ⊎-elim (λ g. rw (some-any t n i g h)) (λ g. let e : n ≡ i = omega arith in rw (e, h) (or-true (any t i))) (lt-or-ge i n)
+
+-- a test beside one that never holds, or always does
+pub or-none : (b : Bool) → b || false ≡ b
+or-none true = refl
+or-none false = refl
+
+pub and-true : (b : Bool) → b && true ≡ b
+and-true true = refl
+and-true false = refl
+
+-- one of several tests holds
+pub some-of : (ts : List Bool) (i : ℕ) → getD ts i false ≡ true → anyOf ts ≡ true
+unfolding anyOf
+some-of [] i e = e
+some-of (t ∷ ts) zero e = rw e
+some-of (t ∷ ts) (suc i) e = rw (some-of ts i e) (or-true t)
+
+-- a walk that looks for any place at which a test holds
+pub any-start : (t : ℕ → Bool) → any t 0 ≡ false
+unfolding any
+any-start t = refl
+
+pub any-more : (t : ℕ → Bool) (n : ℕ) → any t n ≡ false → t n ≡ false → any t (n + 1) ≡ false
+unfolding any
+any-more t n a b = rw (add-one n, a) b

@@ -130,3 +130,18 @@ module _ (says xs : List ℕ) where
   pub used-length : (c : List ℕ) (m : ℕ) → accepts says ≡ true → c ≡ leaves says xs m → length xs ≤ length c
   unfolding padded over
   used-length c m y e = omega (arith, ap length (left c m y e), length-append xs (drop (length xs) (zeros m)))
+
+-- a column that was cleared whole
+pub zeroed : (d : List ℕ) {w : List ℕ} → w ≡ cleared 0 d → w ≡ zeros (length d)
+zeroed d e = e ∙ cleared-all d
+
+pub zeroed-length : (d : List ℕ) {w : List ℕ} → w ≡ cleared 0 d → length w ≡ length d
+zeroed-length d e = ap length (zeroed d e) ∙ length-replicate (length d) 0
+
+pub zeroed-own : (d : List ℕ) {w : List ℕ} → w ≡ cleared 0 d → w ≡ zeros (length w)
+zeroed-own d e = zeroed d e ∙ ap zeros (sym (zeroed-length d e))
+
+pub zero-at : (n i : ℕ) → zeros n ! i ≡ 0
+zero-at zero i = refl
+zero-at (suc n) zero = refl
+zero-at (suc n) (suc i) = zero-at n i

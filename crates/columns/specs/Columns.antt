@@ -1,5 +1,6 @@
 -- What a column holds: a list written over its front, zeros from a place on, and what an answer leaves. Assumes nothing.
 use Prim.Native.Nat.{ℕ, _-_}
+use mathlib.Core.Path.{_≡_}
 use mathlib.Core.Bool.{Bool, cond}
 use mathlib.Core.List.{List, _++_}
 use lib.Dec.{eqb}
@@ -29,3 +30,7 @@ accepts says = eqb (says ! 0) 0
 -- what an answer leaves in a column of m numbers: xs and zeros behind them where it accepts, else zeros
 unfoldable pub leaves : List ℕ → List ℕ → ℕ → List ℕ
 leaves says xs m = cond (accepts says) (padded xs m) (zeros m)
+
+-- a column that begins with xs
+abbrev pub Begins : List ℕ → List ℕ → Type 0
+Begins xs d = take (length xs) d ≡ xs

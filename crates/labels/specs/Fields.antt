@@ -54,6 +54,11 @@ pub record Naming : Type 0 where
 abbrev pub naming : List ℕ → List ℕ → List ℕ → List ℕ → List ℕ → List ℕ → List ℕ → Naming
 naming ss se ts te ls ns ty = record { slotStart = ss; slotEnd = se; staticStart = ts; staticEnd = te; labels = ls; names = ns; types = ty }
 
+-- the same, of columns that a clause names: `read` is `now`, `entry` or `exit`
+abbrev pub nameColumns : {A : Type 0} → (A → List ℕ) → A → A → A → A → A → A → A → Naming
+nameColumns read slotStart slotEnd staticStart staticEnd labels names types =
+    naming (read slotStart) (read slotEnd) (read staticStart) (read staticEnd) (read labels) (read names) (read types)
+
 unfoldable pub namedBy : Naming → ℕ → List ℕ
 namedBy s m =
     collect

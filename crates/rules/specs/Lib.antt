@@ -11,3 +11,4 @@ pub mod Parts
 pub mod Questions
 pub mod Built
 pub mod Worked
+pub mod Tables

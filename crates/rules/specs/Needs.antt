@@ -1,5 +1,7 @@
 -- "ROOM buffers and needs" of document 01: what each buffer needs, of the input alone, and which buffers are short. Assumes nothing.
-use Prim.Native.Nat.{ℕ, _+_, _-_}
+use Prim.Native.Nat.{ℕ, _+_, _-_, _≤_}
+use mathlib.Core.Path.{_≡_}
+use mathlib.Core.Logic.{_⊎_}
 use mathlib.Core.Bool.{Bool, cond}
 use mathlib.Core.List.{List, [], _∷_, _++_}
 use lib.Dec.{ltb}
@@ -104,3 +106,7 @@ shortOfBuild x r =
 
 unfoldable pub shortOfParts : Schema → Parts → Lent → List ℕ
 shortOfParts s p l = buffer 4 (ltb (l .bases) (needBases p) ∷ ltb (l .short) (needOffsets p) ∷ []) ++ shortLater s p l
+
+-- A number in the place of a need, where only so much room matters: it is the need, or both fit.
+unfoldable pub Fits : ℕ → ℕ → ℕ → Type 0
+Fits room need n = (n ≡ need) ⊎ ((need ≤ room) × (n ≤ room))

@@ -185,3 +185,7 @@ counts s p = 0 ∷ length (p .targets) ∷ length (p .weakFrom) ∷ length (p .r
 -- 9 ROOM comes last. What a build answers.
 unfoldable pub buildSays : Input → Rooms → List ℕ
 buildSays x r = firstOf (faults x ++ at 9 (shortOfBuild x r)) (counts (x .schema) (graph x))
+
+-- the answer of plain columns that are laid, with nothing coded yet
+abbrev pub plainCounts : Parts → List ℕ
+plainCounts p = 0 ∷ length (p .targets) ∷ length (p .weakFrom) ∷ length (p .roots) ∷ 0 ∷ 0 ∷ 0 ∷ p .dangling ∷ []
