@@ -32,7 +32,7 @@ pub fn append(
     label: u32,
     kept: bool,
     id: u64,
-    hints: &[u16],
+    short: &[u16],
     scale: u32,
     targets: &mut [u32],
     labels: &mut [u32],
@@ -44,7 +44,7 @@ pub fn append(
     if id == 0 {
         return s;
     }
-    match lookup::hints::find_hinted(ids, id, hints, scale) {
+    match lookup::hints::find_hinted(ids, id, short, scale) {
         lookup::Found::At(t) => {
             if kept {
                 let at = s.edges;
@@ -81,7 +81,7 @@ pub fn append_slot(
     keeps: bool,
     place: usize,
     id: u64,
-    hints: &[u16],
+    short: &[u16],
     scale: u32,
     targets: &mut [u32],
     labels: &mut [u32],
@@ -99,7 +99,7 @@ pub fn append_slot(
         slot_labels[place],
         kept,
         id,
-        hints,
+        short,
         scale,
         targets,
         labels,
@@ -113,7 +113,7 @@ pub fn append_element(
     ids: &[u64],
     k: usize,
     id: u64,
-    hints: &[u16],
+    short: &[u16],
     scale: u32,
     targets: &mut [u32],
     labels: &mut [u32],
@@ -131,7 +131,7 @@ pub fn append_element(
         label,
         true,
         id,
-        hints,
+        short,
         scale,
         targets,
         labels,

@@ -32,17 +32,17 @@ pub fn object_copied(
     escape_ids: &[u64],
     base: u64,
     class_kinds: &[u8],
-    slot_start: &[u32],
-    slot_end: &[u32],
+    slot_starts: &[u32],
+    slot_ends: &[u32],
     slot_labels: &[u32],
     slot_weak: &[u8],
     loaders: &[u64],
-    static_start: &[u32],
-    static_end: &[u32],
-    names: &[u32],
-    types: &[u8],
-    values: &[u64],
-    hints: &[u16],
+    static_starts: &[u32],
+    static_ends: &[u32],
+    static_names: &[u32],
+    static_types: &[u8],
+    static_values: &[u64],
+    short: &[u16],
     scale: u32,
     targets: &mut [u32],
     labels: &mut [u32],
@@ -52,12 +52,12 @@ pub fn object_copied(
 ) -> Pass
     requires { ⌜ Rises (now «escape_places») ⌝ }
     requires { ⌜ object < 2 ^ 32 ⌝ }
-    requires { ⌜ SlotsIn (now «class_kinds») (now «slot_start») (now «slot_end») (length (now «slot_labels»)) (length (now «slot_weak»)) kind class start ⌝ }
+    requires { ⌜ SlotsIn (now «class_kinds») (now «slot_starts») (now «slot_ends») (length (now «slot_labels»)) (length (now «slot_weak»)) kind class start ⌝ }
     requires { ⌜ (kind ≡ 1 → (count ≤ 2 ^ 31) × (start + count < 2 ^ 64)) ⌝ }
-    requires { ⌜ StaticsIn (now «static_start») (now «static_end») (length (now names)) (length (now types)) (length (now values)) mark ⌝ }
+    requires { ⌜ StaticsIn (now «static_starts») (now «static_ends») (length (now «static_names»)) (length (now «static_types»)) (length (now «static_values»)) mark ⌝ }
     requires { ⌜ (0 < mark → mark ≤ length (now loaders)) ⌝ }
-    requires { ⌜ Ready (now ids) (copiedParts (idsOf (now codes) (now «escape_places») (now «escape_ids») base) start (now «class_kinds») (now «slot_start») (now «slot_end») (now «slot_labels») (now «slot_weak») policy kind class count (now loaders) (now «static_start») (now «static_end») (now names) (now types) (now values) mark) from (length (now targets)) (length (now labels)) (length (now «weak_from»)) (length (now «weak_to»)) (now account) ⌝ }
-    ensures { λ q. ⌜ Done (now (ids .entry)) (copiedParts (idsOf (now (codes .entry)) (now («escape_places» .entry)) (now («escape_ids» .entry)) base) start (now («class_kinds» .entry)) (now («slot_start» .entry)) (now («slot_end» .entry)) (now («slot_labels» .entry)) (now («slot_weak» .entry)) policy kind class count (now (loaders .entry)) (now («static_start» .entry)) (now («static_end» .entry)) (now (names .entry)) (now (types .entry)) (now (values .entry)) mark) object from q (now (targets .entry)) (now (labels .entry)) (now («weak_from» .entry)) (now («weak_to» .entry)) (now (account .entry)) (now (targets .exit)) (now (labels .exit)) (now («weak_from» .exit)) (now («weak_to» .exit)) (now (account .exit)) ⌝ }
+    requires { ⌜ Ready (now ids) (copiedParts (idsOf (now codes) (now «escape_places») (now «escape_ids») base) start (now «class_kinds») (now «slot_starts») (now «slot_ends») (now «slot_labels») (now «slot_weak») policy kind class count (now loaders) (now «static_starts») (now «static_ends») (now «static_names») (now «static_types») (now «static_values») mark) from (length (now targets)) (length (now labels)) (length (now «weak_from»)) (length (now «weak_to»)) (now account) ⌝ }
+    ensures { λ q. ⌜ Done (now (ids .entry)) (copiedParts (idsOf (now (codes .entry)) (now («escape_places» .entry)) (now («escape_ids» .entry)) base) start (now («class_kinds» .entry)) (now («slot_starts» .entry)) (now («slot_ends» .entry)) (now («slot_labels» .entry)) (now («slot_weak» .entry)) policy kind class count (now (loaders .entry)) (now («static_starts» .entry)) (now («static_ends» .entry)) (now («static_names» .entry)) (now («static_types» .entry)) (now («static_values» .entry)) mark) object from q (now (targets .entry)) (now (labels .entry)) (now («weak_from» .entry)) (now («weak_to» .entry)) (now (account .entry)) (now (targets .exit)) (now (labels .exit)) (now («weak_from» .exit)) (now («weak_to» .exit)) (now (account .exit)) ⌝ }
 {
     let s1 = copied::object_slots(
         from,
@@ -69,14 +69,14 @@ pub fn object_copied(
         start,
         row,
         class_kinds,
-        slot_start,
-        slot_end,
+        slot_starts,
+        slot_ends,
         slot_labels,
         slot_weak,
         policy,
         kind,
         class,
-        hints,
+        short,
         scale,
         targets,
         labels,
@@ -93,7 +93,7 @@ pub fn object_copied(
         row,
         kind,
         count,
-        hints,
+        short,
         scale,
         targets,
         labels,
@@ -102,13 +102,13 @@ pub fn object_copied(
     let s3 = class::found_statics(
         s2,
         ids,
-        static_start,
-        static_end,
-        names,
-        types,
-        values,
+        static_starts,
+        static_ends,
+        static_names,
+        static_types,
+        static_values,
         mark,
-        hints,
+        short,
         scale,
         targets,
         labels,
@@ -119,7 +119,7 @@ pub fn object_copied(
         ids,
         loaders,
         mark,
-        hints,
+        short,
         scale,
         targets,
         labels,
@@ -151,18 +151,18 @@ pub fn object_raw(
     bytes: &[u8],
     size: usize,
     class_kinds: &[u8],
-    slot_start: &[u32],
-    slot_end: &[u32],
+    slot_starts: &[u32],
+    slot_ends: &[u32],
     slot_offsets: &[u32],
     slot_labels: &[u32],
     slot_weak: &[u8],
     loaders: &[u64],
-    static_start: &[u32],
-    static_end: &[u32],
-    names: &[u32],
-    types: &[u8],
-    values: &[u64],
-    hints: &[u16],
+    static_starts: &[u32],
+    static_ends: &[u32],
+    static_names: &[u32],
+    static_types: &[u8],
+    static_values: &[u64],
+    short: &[u16],
     scale: u32,
     targets: &mut [u32],
     labels: &mut [u32],
@@ -171,14 +171,14 @@ pub fn object_raw(
     account: &mut [[u64; 3]; 4],
 ) -> Pass
     requires { ⌜ object < 2 ^ 32 ⌝ }
-    requires { ⌜ SlotsIn (now «class_kinds») (now «slot_start») (now «slot_end») (length (now «slot_labels»)) (length (now «slot_weak»)) kind class 0 ⌝ }
+    requires { ⌜ SlotsIn (now «class_kinds») (now «slot_starts») (now «slot_ends») (length (now «slot_labels»)) (length (now «slot_weak»)) kind class 0 ⌝ }
     requires { ⌜ length (now «slot_offsets») ≡ length (now «slot_labels») ⌝ }
     requires { ⌜ (kind ≡ 0 → BodyIn (length (now bytes)) size start body) ⌝ }
     requires { ⌜ (kind ≡ 1 → (count ≤ 2 ^ 31) × (size ≤ 8) × (start + count * size ≤ length (now bytes))) ⌝ }
-    requires { ⌜ StaticsIn (now «static_start») (now «static_end») (length (now names)) (length (now types)) (length (now values)) mark ⌝ }
+    requires { ⌜ StaticsIn (now «static_starts») (now «static_ends») (length (now «static_names»)) (length (now «static_types»)) (length (now «static_values»)) mark ⌝ }
     requires { ⌜ (0 < mark → mark ≤ length (now loaders)) ⌝ }
-    requires { ⌜ Ready (now ids) (rawParts (now bytes) size start body (now «class_kinds») (now «slot_start») (now «slot_end») (now «slot_offsets») (now «slot_labels») (now «slot_weak») policy kind class count (now loaders) (now «static_start») (now «static_end») (now names) (now types) (now values) mark) from (length (now targets)) (length (now labels)) (length (now «weak_from»)) (length (now «weak_to»)) (now account) ⌝ }
-    ensures { λ q. ⌜ Done (now (ids .entry)) (rawParts (now (bytes .entry)) size start body (now («class_kinds» .entry)) (now («slot_start» .entry)) (now («slot_end» .entry)) (now («slot_offsets» .entry)) (now («slot_labels» .entry)) (now («slot_weak» .entry)) policy kind class count (now (loaders .entry)) (now («static_start» .entry)) (now («static_end» .entry)) (now (names .entry)) (now (types .entry)) (now (values .entry)) mark) object from q (now (targets .entry)) (now (labels .entry)) (now («weak_from» .entry)) (now («weak_to» .entry)) (now (account .entry)) (now (targets .exit)) (now (labels .exit)) (now («weak_from» .exit)) (now («weak_to» .exit)) (now (account .exit)) ⌝ }
+    requires { ⌜ Ready (now ids) (rawParts (now bytes) size start body (now «class_kinds») (now «slot_starts») (now «slot_ends») (now «slot_offsets») (now «slot_labels») (now «slot_weak») policy kind class count (now loaders) (now «static_starts») (now «static_ends») (now «static_names») (now «static_types») (now «static_values») mark) from (length (now targets)) (length (now labels)) (length (now «weak_from»)) (length (now «weak_to»)) (now account) ⌝ }
+    ensures { λ q. ⌜ Done (now (ids .entry)) (rawParts (now (bytes .entry)) size start body (now («class_kinds» .entry)) (now («slot_starts» .entry)) (now («slot_ends» .entry)) (now («slot_offsets» .entry)) (now («slot_labels» .entry)) (now («slot_weak» .entry)) policy kind class count (now (loaders .entry)) (now («static_starts» .entry)) (now («static_ends» .entry)) (now («static_names» .entry)) (now («static_types» .entry)) (now («static_values» .entry)) mark) object from q (now (targets .entry)) (now (labels .entry)) (now («weak_from» .entry)) (now («weak_to» .entry)) (now (account .entry)) (now (targets .exit)) (now (labels .exit)) (now («weak_from» .exit)) (now («weak_to» .exit)) (now (account .exit)) ⌝ }
 {
     let s1 = raw::object_slots(
         from,
@@ -188,15 +188,15 @@ pub fn object_raw(
         start,
         body,
         class_kinds,
-        slot_start,
-        slot_end,
+        slot_starts,
+        slot_ends,
         slot_offsets,
         slot_labels,
         slot_weak,
         policy,
         kind,
         class,
-        hints,
+        short,
         scale,
         targets,
         labels,
@@ -210,7 +210,7 @@ pub fn object_raw(
         start,
         kind,
         count,
-        hints,
+        short,
         scale,
         targets,
         labels,
@@ -219,13 +219,13 @@ pub fn object_raw(
     let s3 = class::found_statics(
         s2,
         ids,
-        static_start,
-        static_end,
-        names,
-        types,
-        values,
+        static_starts,
+        static_ends,
+        static_names,
+        static_types,
+        static_values,
         mark,
-        hints,
+        short,
         scale,
         targets,
         labels,
@@ -236,7 +236,7 @@ pub fn object_raw(
         ids,
         loaders,
         mark,
-        hints,
+        short,
         scale,
         targets,
         labels,

@@ -28,17 +28,17 @@ pub fn step_copied(
     escape_ids: &[u64],
     base: u64,
     class_kinds: &[u8],
-    slot_start: &[u32],
-    slot_end: &[u32],
+    slot_starts: &[u32],
+    slot_ends: &[u32],
     slot_labels: &[u32],
     slot_weak: &[u8],
     loaders: &[u64],
-    static_start: &[u32],
-    static_end: &[u32],
-    names: &[u32],
-    types: &[u8],
-    values: &[u64],
-    hints: &[u16],
+    static_starts: &[u32],
+    static_ends: &[u32],
+    static_names: &[u32],
+    static_types: &[u8],
+    static_values: &[u64],
+    short: &[u16],
     scale: u32,
     targets: &mut [u32],
     labels: &mut [u32],
@@ -49,12 +49,12 @@ pub fn step_copied(
     requires { ⌜ Rises (now «escape_places») ⌝ }
     requires { ⌜ o < 2 ^ 32 ⌝ }
     requires { ⌜ (o < length (now kinds)) × (o < length (now classes)) × (o < length (now lengths)) × (o < length (now starts)) × (o + 1 < length (now working)) ⌝ }
-    requires { ⌜ SlotsIn (now «class_kinds») (now «slot_start») (now «slot_end») (length (now «slot_labels»)) (length (now «slot_weak»)) (now kinds ! o) (now classes ! o) (now starts ! o) ⌝ }
+    requires { ⌜ SlotsIn (now «class_kinds») (now «slot_starts») (now «slot_ends») (length (now «slot_labels»)) (length (now «slot_weak»)) (now kinds ! o) (now classes ! o) (now starts ! o) ⌝ }
     requires { ⌜ (now kinds ! o ≡ 1 → (now lengths ! o ≤ 2 ^ 31) × (now starts ! o + now lengths ! o < 2 ^ 64)) ⌝ }
-    requires { ⌜ StaticsIn (now «static_start») (now «static_end») (length (now names)) (length (now types)) (length (now values)) (now working ! (o + 1)) ⌝ }
+    requires { ⌜ StaticsIn (now «static_starts») (now «static_ends») (length (now «static_names»)) (length (now «static_types»)) (length (now «static_values»)) (now working ! (o + 1)) ⌝ }
     requires { ⌜ (0 < now working ! (o + 1) → now working ! (o + 1) ≤ length (now loaders)) ⌝ }
-    requires { ⌜ Ready (now ids) (copiedParts (idsOf (now codes) (now «escape_places») (now «escape_ids») base) ((now starts) ! o) (now «class_kinds») (now «slot_start») (now «slot_end») (now «slot_labels») (now «slot_weak») policy ((now kinds) ! o) ((now classes) ! o) ((now lengths) ! o) (now loaders) (now «static_start») (now «static_end») (now names) (now types) (now values) ((now working) ! (o + 1))) from (length (now targets)) (length (now labels)) (length (now «weak_from»)) (length (now «weak_to»)) (now account) ⌝ }
-    ensures { λ q. ⌜ Done (now (ids .entry)) (copiedParts (idsOf (now (codes .entry)) (now («escape_places» .entry)) (now («escape_ids» .entry)) base) ((now (starts .entry)) ! o) (now («class_kinds» .entry)) (now («slot_start» .entry)) (now («slot_end» .entry)) (now («slot_labels» .entry)) (now («slot_weak» .entry)) policy ((now (kinds .entry)) ! o) ((now (classes .entry)) ! o) ((now (lengths .entry)) ! o) (now (loaders .entry)) (now («static_start» .entry)) (now («static_end» .entry)) (now (names .entry)) (now (types .entry)) (now (values .entry)) ((now (working .entry)) ! (o + 1))) o from q (now (targets .entry)) (now (labels .entry)) (now («weak_from» .entry)) (now («weak_to» .entry)) (now (account .entry)) (now (targets .exit)) (now (labels .exit)) (now («weak_from» .exit)) (now («weak_to» .exit)) (now (account .exit)) ⌝ }
+    requires { ⌜ Ready (now ids) (copiedParts (idsOf (now codes) (now «escape_places») (now «escape_ids») base) ((now starts) ! o) (now «class_kinds») (now «slot_starts») (now «slot_ends») (now «slot_labels») (now «slot_weak») policy ((now kinds) ! o) ((now classes) ! o) ((now lengths) ! o) (now loaders) (now «static_starts») (now «static_ends») (now «static_names») (now «static_types») (now «static_values») ((now working) ! (o + 1))) from (length (now targets)) (length (now labels)) (length (now «weak_from»)) (length (now «weak_to»)) (now account) ⌝ }
+    ensures { λ q. ⌜ Done (now (ids .entry)) (copiedParts (idsOf (now (codes .entry)) (now («escape_places» .entry)) (now («escape_ids» .entry)) base) ((now (starts .entry)) ! o) (now («class_kinds» .entry)) (now («slot_starts» .entry)) (now («slot_ends» .entry)) (now («slot_labels» .entry)) (now («slot_weak» .entry)) policy ((now (kinds .entry)) ! o) ((now (classes .entry)) ! o) ((now (lengths .entry)) ! o) (now (loaders .entry)) (now («static_starts» .entry)) (now («static_ends» .entry)) (now («static_names» .entry)) (now («static_types» .entry)) (now («static_values» .entry)) ((now (working .entry)) ! (o + 1))) o from q (now (targets .entry)) (now (labels .entry)) (now («weak_from» .entry)) (now («weak_to» .entry)) (now (account .entry)) (now (targets .exit)) (now (labels .exit)) (now («weak_from» .exit)) (now («weak_to» .exit)) (now (account .exit)) ⌝ }
     ensures { λ q. ⌜ now (working .exit) ≡ set (now (working .entry)) (o + 1) (q .edges) ⌝ }
 {
     let mark = working[o + 1] as usize;
@@ -78,17 +78,17 @@ pub fn step_copied(
         escape_ids,
         base,
         class_kinds,
-        slot_start,
-        slot_end,
+        slot_starts,
+        slot_ends,
         slot_labels,
         slot_weak,
         loaders,
-        static_start,
-        static_end,
-        names,
-        types,
-        values,
-        hints,
+        static_starts,
+        static_ends,
+        static_names,
+        static_types,
+        static_values,
+        short,
         scale,
         targets,
         labels,
@@ -115,18 +115,18 @@ pub fn step_raw(
     bytes: &[u8],
     size: usize,
     class_kinds: &[u8],
-    slot_start: &[u32],
-    slot_end: &[u32],
+    slot_starts: &[u32],
+    slot_ends: &[u32],
     slot_offsets: &[u32],
     slot_labels: &[u32],
     slot_weak: &[u8],
     loaders: &[u64],
-    static_start: &[u32],
-    static_end: &[u32],
-    names: &[u32],
-    types: &[u8],
-    values: &[u64],
-    hints: &[u16],
+    static_starts: &[u32],
+    static_ends: &[u32],
+    static_names: &[u32],
+    static_types: &[u8],
+    static_values: &[u64],
+    short: &[u16],
     scale: u32,
     targets: &mut [u32],
     labels: &mut [u32],
@@ -136,14 +136,14 @@ pub fn step_raw(
 ) -> Pass
     requires { ⌜ o < 2 ^ 32 ⌝ }
     requires { ⌜ (o < length (now kinds)) × (o < length (now classes)) × (o < length (now lengths)) × (o < length (now starts)) × (o < length (now bodies)) × (o + 1 < length (now working)) ⌝ }
-    requires { ⌜ SlotsIn (now «class_kinds») (now «slot_start») (now «slot_end») (length (now «slot_labels»)) (length (now «slot_weak»)) (now kinds ! o) (now classes ! o) 0 ⌝ }
+    requires { ⌜ SlotsIn (now «class_kinds») (now «slot_starts») (now «slot_ends») (length (now «slot_labels»)) (length (now «slot_weak»)) (now kinds ! o) (now classes ! o) 0 ⌝ }
     requires { ⌜ length (now «slot_offsets») ≡ length (now «slot_labels») ⌝ }
     requires { ⌜ (now kinds ! o ≡ 0 → BodyIn (length (now bytes)) size (now starts ! o) (now bodies ! o)) ⌝ }
     requires { ⌜ (now kinds ! o ≡ 1 → (now lengths ! o ≤ 2 ^ 31) × (size ≤ 8) × (now starts ! o + now lengths ! o * size ≤ length (now bytes))) ⌝ }
-    requires { ⌜ StaticsIn (now «static_start») (now «static_end») (length (now names)) (length (now types)) (length (now values)) (now working ! (o + 1)) ⌝ }
+    requires { ⌜ StaticsIn (now «static_starts») (now «static_ends») (length (now «static_names»)) (length (now «static_types»)) (length (now «static_values»)) (now working ! (o + 1)) ⌝ }
     requires { ⌜ (0 < now working ! (o + 1) → now working ! (o + 1) ≤ length (now loaders)) ⌝ }
-    requires { ⌜ Ready (now ids) (rawParts (now bytes) size ((now starts) ! o) ((now bodies) ! o) (now «class_kinds») (now «slot_start») (now «slot_end») (now «slot_offsets») (now «slot_labels») (now «slot_weak») policy ((now kinds) ! o) ((now classes) ! o) ((now lengths) ! o) (now loaders) (now «static_start») (now «static_end») (now names) (now types) (now values) ((now working) ! (o + 1))) from (length (now targets)) (length (now labels)) (length (now «weak_from»)) (length (now «weak_to»)) (now account) ⌝ }
-    ensures { λ q. ⌜ Done (now (ids .entry)) (rawParts (now (bytes .entry)) size ((now (starts .entry)) ! o) ((now (bodies .entry)) ! o) (now («class_kinds» .entry)) (now («slot_start» .entry)) (now («slot_end» .entry)) (now («slot_offsets» .entry)) (now («slot_labels» .entry)) (now («slot_weak» .entry)) policy ((now (kinds .entry)) ! o) ((now (classes .entry)) ! o) ((now (lengths .entry)) ! o) (now (loaders .entry)) (now («static_start» .entry)) (now («static_end» .entry)) (now (names .entry)) (now (types .entry)) (now (values .entry)) ((now (working .entry)) ! (o + 1))) o from q (now (targets .entry)) (now (labels .entry)) (now («weak_from» .entry)) (now («weak_to» .entry)) (now (account .entry)) (now (targets .exit)) (now (labels .exit)) (now («weak_from» .exit)) (now («weak_to» .exit)) (now (account .exit)) ⌝ }
+    requires { ⌜ Ready (now ids) (rawParts (now bytes) size ((now starts) ! o) ((now bodies) ! o) (now «class_kinds») (now «slot_starts») (now «slot_ends») (now «slot_offsets») (now «slot_labels») (now «slot_weak») policy ((now kinds) ! o) ((now classes) ! o) ((now lengths) ! o) (now loaders) (now «static_starts») (now «static_ends») (now «static_names») (now «static_types») (now «static_values») ((now working) ! (o + 1))) from (length (now targets)) (length (now labels)) (length (now «weak_from»)) (length (now «weak_to»)) (now account) ⌝ }
+    ensures { λ q. ⌜ Done (now (ids .entry)) (rawParts (now (bytes .entry)) size ((now (starts .entry)) ! o) ((now (bodies .entry)) ! o) (now («class_kinds» .entry)) (now («slot_starts» .entry)) (now («slot_ends» .entry)) (now («slot_offsets» .entry)) (now («slot_labels» .entry)) (now («slot_weak» .entry)) policy ((now (kinds .entry)) ! o) ((now (classes .entry)) ! o) ((now (lengths .entry)) ! o) (now (loaders .entry)) (now («static_starts» .entry)) (now («static_ends» .entry)) (now («static_names» .entry)) (now («static_types» .entry)) (now («static_values» .entry)) ((now (working .entry)) ! (o + 1))) o from q (now (targets .entry)) (now (labels .entry)) (now («weak_from» .entry)) (now («weak_to» .entry)) (now (account .entry)) (now (targets .exit)) (now (labels .exit)) (now («weak_from» .exit)) (now («weak_to» .exit)) (now (account .exit)) ⌝ }
     ensures { λ q. ⌜ now (working .exit) ≡ set (now (working .entry)) (o + 1) (q .edges) ⌝ }
 {
     let mark = working[o + 1] as usize;
@@ -166,18 +166,18 @@ pub fn step_raw(
         bytes,
         size,
         class_kinds,
-        slot_start,
-        slot_end,
+        slot_starts,
+        slot_ends,
         slot_offsets,
         slot_labels,
         slot_weak,
         loaders,
-        static_start,
-        static_end,
-        names,
-        types,
-        values,
-        hints,
+        static_starts,
+        static_ends,
+        static_names,
+        static_types,
+        static_values,
+        short,
         scale,
         targets,
         labels,

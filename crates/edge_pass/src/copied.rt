@@ -33,17 +33,17 @@ pub fn walk_copied(
     escape_ids: &[u64],
     base: u64,
     class_kinds: &[u8],
-    slot_start: &[u32],
-    slot_end: &[u32],
+    slot_starts: &[u32],
+    slot_ends: &[u32],
     slot_labels: &[u32],
     slot_weak: &[u8],
     loaders: &[u64],
-    static_start: &[u32],
-    static_end: &[u32],
-    names: &[u32],
-    types: &[u8],
-    values: &[u64],
-    hints: &[u16],
+    static_starts: &[u32],
+    static_ends: &[u32],
+    static_names: &[u32],
+    static_types: &[u8],
+    static_values: &[u64],
+    short: &[u16],
     scale: u32,
     targets: &mut [u32],
     labels: &mut [u32],
@@ -52,10 +52,10 @@ pub fn walk_copied(
     account: &mut [[u64; 3]; 4],
 ) -> Pass
     requires { ⌜ Rises (now «escape_places») ⌝ }
-    requires { ⌜ ((i : ℕ) → i < count → ObjectIn (copiedInput (now ids) (now kinds) (now classes) (now lengths) [] (now loaders) [] (now «class_kinds») (now «slot_start») (now «slot_end») (now «static_start») (now «static_end») [] (now «slot_labels») (now «slot_weak») (now names) (now types) (now values) 0 (now codes) (now «escape_places») (now «escape_ids») base (now starts) [] policy) (now working) (first + i)) ⌝ }
-    requires { ⌜ WalkRoom (now ids) (partsFrom (copiedInput (now ids) (now kinds) (now classes) (now lengths) [] (now loaders) [] (now «class_kinds») (now «slot_start») (now «slot_end») (now «static_start») (now «static_end») [] (now «slot_labels») (now «slot_weak») (now names) (now types) (now values) 0 (now codes) (now «escape_places») (now «escape_ids») base (now starts) [] policy) (now working) first) count from (length (now targets)) (length (now labels)) (length (now «weak_from»)) (length (now «weak_to»)) ⌝ }
+    requires { ⌜ ((i : ℕ) → i < count → ObjectIn (copiedInput (now ids) (now kinds) (now classes) (now lengths) [] (now loaders) [] (now «class_kinds») (now «slot_starts») (now «slot_ends») (now «static_starts») (now «static_ends») [] (now «slot_labels») (now «slot_weak») (now «static_names») (now «static_types») (now «static_values») 0 (now codes) (now «escape_places») (now «escape_ids») base (now starts) [] policy) (now working) (first + i)) ⌝ }
+    requires { ⌜ WalkRoom (now ids) (partsFrom (copiedInput (now ids) (now kinds) (now classes) (now lengths) [] (now loaders) [] (now «class_kinds») (now «slot_starts») (now «slot_ends») (now «static_starts») (now «static_ends») [] (now «slot_labels») (now «slot_weak») (now «static_names») (now «static_types») (now «static_values») 0 (now codes) (now «escape_places») (now «escape_ids») base (now starts) [] policy) (now working) first) count from (length (now targets)) (length (now labels)) (length (now «weak_from»)) (length (now «weak_to»)) ⌝ }
     requires { ⌜ AccountIn (now account) from ⌝ }
-    ensures { λ q. ⌜ Walked (now (ids .entry)) (partsFrom (copiedInput (now (ids .entry)) (now (kinds .entry)) (now (classes .entry)) (now (lengths .entry)) [] (now (loaders .entry)) [] (now («class_kinds» .entry)) (now («slot_start» .entry)) (now («slot_end» .entry)) (now («static_start» .entry)) (now («static_end» .entry)) [] (now («slot_labels» .entry)) (now («slot_weak» .entry)) (now (names .entry)) (now (types .entry)) (now (values .entry)) 0 (now (codes .entry)) (now («escape_places» .entry)) (now («escape_ids» .entry)) base (now (starts .entry)) [] policy) (now (working .entry)) first) first count from q (now (targets .entry)) (now (labels .entry)) (now («weak_from» .entry)) (now («weak_to» .entry)) (now (working .entry)) (now (account .entry)) (now (targets .exit)) (now (labels .exit)) (now («weak_from» .exit)) (now («weak_to» .exit)) (now (working .exit)) (now (account .exit)) ⌝ }
+    ensures { λ q. ⌜ Walked (now (ids .entry)) (partsFrom (copiedInput (now (ids .entry)) (now (kinds .entry)) (now (classes .entry)) (now (lengths .entry)) [] (now (loaders .entry)) [] (now («class_kinds» .entry)) (now («slot_starts» .entry)) (now («slot_ends» .entry)) (now («static_starts» .entry)) (now («static_ends» .entry)) [] (now («slot_labels» .entry)) (now («slot_weak» .entry)) (now («static_names» .entry)) (now («static_types» .entry)) (now («static_values» .entry)) 0 (now (codes .entry)) (now («escape_places» .entry)) (now («escape_ids» .entry)) base (now (starts .entry)) [] policy) (now (working .entry)) first) first count from q (now (targets .entry)) (now (labels .entry)) (now («weak_from» .entry)) (now («weak_to» .entry)) (now (working .entry)) (now (account .entry)) (now (targets .exit)) (now (labels .exit)) (now («weak_from» .exit)) (now («weak_to» .exit)) (now (working .exit)) (now (account .exit)) ⌝ }
 {
     let mut s = from;
     let mut row = 0;
@@ -78,17 +78,17 @@ pub fn walk_copied(
             escape_ids,
             base,
             class_kinds,
-            slot_start,
-            slot_end,
+            slot_starts,
+            slot_ends,
             slot_labels,
             slot_weak,
             loaders,
-            static_start,
-            static_end,
-            names,
-            types,
-            values,
-            hints,
+            static_starts,
+            static_ends,
+            static_names,
+            static_types,
+            static_values,
+            short,
             scale,
             targets,
             labels,
@@ -113,16 +113,16 @@ pub fn edges_copied(
     loaders: &[u64],
     dumped: &[u8],
     class_kinds: &[u8],
-    slot_start: &[u32],
-    slot_end: &[u32],
-    static_start: &[u32],
-    static_end: &[u32],
+    slot_starts: &[u32],
+    slot_ends: &[u32],
+    static_starts: &[u32],
+    static_ends: &[u32],
     slot_offsets: &[u32],
     slot_labels: &[u32],
     slot_weak: &[u8],
-    names: &[u32],
-    types: &[u8],
-    values: &[u64],
+    static_names: &[u32],
+    static_types: &[u8],
+    static_values: &[u64],
     name_count: usize,
     codes: &[u32],
     escape_places: &[u64],
@@ -131,7 +131,7 @@ pub fn edges_copied(
     starts: &[u32],
     roots: &[u32],
     policy: rules::ReferencePolicy,
-    hints: &[u16],
+    short: &[u16],
     working: &mut [u64],
     targets: &mut [u32],
     labels: &mut [u32],
@@ -139,13 +139,13 @@ pub fn edges_copied(
     weak_to: &mut [u32],
     account: &mut [[u64; 3]; 4],
 ) -> rules::Built
-    requires { ⌜ (accepts (builtSays v) ≡ true → Handed (copiedInput (now ids) (now kinds) (now classes) (now lengths) (now «class_ids») (now loaders) (now dumped) (now «class_kinds») (now «slot_start») (now «slot_end») (now «static_start») (now «static_end») (now «slot_offsets») (now «slot_labels») (now «slot_weak») (now names) (now types) (now values) «name_count» (now codes) (now «escape_places») (now «escape_ids») base (now starts) (now roots) policy) (length (now targets)) (length (now labels)) (length (now «weak_from»)) (length (now «weak_to»)) (now working) (now account)) ⌝ }
-    ensures { λ r. ⌜ Edged (copiedInput (now (ids .entry)) (now (kinds .entry)) (now (classes .entry)) (now (lengths .entry)) (now («class_ids» .entry)) (now (loaders .entry)) (now (dumped .entry)) (now («class_kinds» .entry)) (now («slot_start» .entry)) (now («slot_end» .entry)) (now («static_start» .entry)) (now («static_end» .entry)) (now («slot_offsets» .entry)) (now («slot_labels» .entry)) (now («slot_weak» .entry)) (now (names .entry)) (now (types .entry)) (now (values .entry)) «name_count» (now (codes .entry)) (now («escape_places» .entry)) (now («escape_ids» .entry)) base (now (starts .entry)) (now (roots .entry)) policy) v r (now (targets .entry)) (now (labels .entry)) (now («weak_from» .entry)) (now («weak_to» .entry)) (now (working .entry)) (now (targets .exit)) (now (labels .exit)) (now («weak_from» .exit)) (now («weak_to» .exit)) (now (working .exit)) (now (account .exit)) ⌝ }
+    requires { ⌜ (accepts (builtSays v) ≡ true → Handed (copiedInput (now ids) (now kinds) (now classes) (now lengths) (now «class_ids») (now loaders) (now dumped) (now «class_kinds») (now «slot_starts») (now «slot_ends») (now «static_starts») (now «static_ends») (now «slot_offsets») (now «slot_labels») (now «slot_weak») (now «static_names») (now «static_types») (now «static_values») «name_count» (now codes) (now «escape_places») (now «escape_ids») base (now starts) (now roots) policy) (length (now targets)) (length (now labels)) (length (now «weak_from»)) (length (now «weak_to»)) (now working) (now account)) ⌝ }
+    ensures { λ r. ⌜ Edged (copiedInput (now (ids .entry)) (now (kinds .entry)) (now (classes .entry)) (now (lengths .entry)) (now («class_ids» .entry)) (now (loaders .entry)) (now (dumped .entry)) (now («class_kinds» .entry)) (now («slot_starts» .entry)) (now («slot_ends» .entry)) (now («static_starts» .entry)) (now («static_ends» .entry)) (now («slot_offsets» .entry)) (now («slot_labels» .entry)) (now («slot_weak» .entry)) (now («static_names» .entry)) (now («static_types» .entry)) (now («static_values» .entry)) «name_count» (now (codes .entry)) (now («escape_places» .entry)) (now («escape_ids» .entry)) base (now (starts .entry)) (now (roots .entry)) policy) v r (now (targets .entry)) (now (labels .entry)) (now («weak_from» .entry)) (now («weak_to» .entry)) (now (working .entry)) (now (targets .exit)) (now (labels .exit)) (now («weak_from» .exit)) (now («weak_to» .exit)) (now (working .exit)) (now (account .exit)) ⌝ }
 {
     if !rules::accepted(v) {
         return v;
     }
-    let scale = lookup::hints::scale(ids, hints.len());
+    let scale = lookup::hints::scale(ids, short.len());
     let q = walk_copied(
         Pass::begun(),
         0,
@@ -162,17 +162,17 @@ pub fn edges_copied(
         escape_ids,
         base,
         class_kinds,
-        slot_start,
-        slot_end,
+        slot_starts,
+        slot_ends,
         slot_labels,
         slot_weak,
         loaders,
-        static_start,
-        static_end,
-        names,
-        types,
-        values,
-        hints,
+        static_starts,
+        static_ends,
+        static_names,
+        static_types,
+        static_values,
+        short,
         scale,
         targets,
         labels,

@@ -31,18 +31,18 @@ pub fn walk_raw(
     bytes: &[u8],
     size: usize,
     class_kinds: &[u8],
-    slot_start: &[u32],
-    slot_end: &[u32],
+    slot_starts: &[u32],
+    slot_ends: &[u32],
     slot_offsets: &[u32],
     slot_labels: &[u32],
     slot_weak: &[u8],
     loaders: &[u64],
-    static_start: &[u32],
-    static_end: &[u32],
-    names: &[u32],
-    types: &[u8],
-    values: &[u64],
-    hints: &[u16],
+    static_starts: &[u32],
+    static_ends: &[u32],
+    static_names: &[u32],
+    static_types: &[u8],
+    static_values: &[u64],
+    short: &[u16],
     scale: u32,
     targets: &mut [u32],
     labels: &mut [u32],
@@ -50,10 +50,10 @@ pub fn walk_raw(
     weak_to: &mut [u32],
     account: &mut [[u64; 3]; 4],
 ) -> Pass
-    requires { ⌜ ((i : ℕ) → i < count → ObjectIn (rawInput (now ids) (now kinds) (now classes) (now lengths) [] (now loaders) [] (now «class_kinds») (now «slot_start») (now «slot_end») (now «static_start») (now «static_end») (now «slot_offsets») (now «slot_labels») (now «slot_weak») (now names) (now types) (now values) 0 (now bytes) size (now starts) (now bodies) [] policy) (now working) (first + i)) ⌝ }
-    requires { ⌜ WalkRoom (now ids) (partsFrom (rawInput (now ids) (now kinds) (now classes) (now lengths) [] (now loaders) [] (now «class_kinds») (now «slot_start») (now «slot_end») (now «static_start») (now «static_end») (now «slot_offsets») (now «slot_labels») (now «slot_weak») (now names) (now types) (now values) 0 (now bytes) size (now starts) (now bodies) [] policy) (now working) first) count from (length (now targets)) (length (now labels)) (length (now «weak_from»)) (length (now «weak_to»)) ⌝ }
+    requires { ⌜ ((i : ℕ) → i < count → ObjectIn (rawInput (now ids) (now kinds) (now classes) (now lengths) [] (now loaders) [] (now «class_kinds») (now «slot_starts») (now «slot_ends») (now «static_starts») (now «static_ends») (now «slot_offsets») (now «slot_labels») (now «slot_weak») (now «static_names») (now «static_types») (now «static_values») 0 (now bytes) size (now starts) (now bodies) [] policy) (now working) (first + i)) ⌝ }
+    requires { ⌜ WalkRoom (now ids) (partsFrom (rawInput (now ids) (now kinds) (now classes) (now lengths) [] (now loaders) [] (now «class_kinds») (now «slot_starts») (now «slot_ends») (now «static_starts») (now «static_ends») (now «slot_offsets») (now «slot_labels») (now «slot_weak») (now «static_names») (now «static_types») (now «static_values») 0 (now bytes) size (now starts) (now bodies) [] policy) (now working) first) count from (length (now targets)) (length (now labels)) (length (now «weak_from»)) (length (now «weak_to»)) ⌝ }
     requires { ⌜ AccountIn (now account) from ⌝ }
-    ensures { λ q. ⌜ Walked (now (ids .entry)) (partsFrom (rawInput (now (ids .entry)) (now (kinds .entry)) (now (classes .entry)) (now (lengths .entry)) [] (now (loaders .entry)) [] (now («class_kinds» .entry)) (now («slot_start» .entry)) (now («slot_end» .entry)) (now («static_start» .entry)) (now («static_end» .entry)) (now («slot_offsets» .entry)) (now («slot_labels» .entry)) (now («slot_weak» .entry)) (now (names .entry)) (now (types .entry)) (now (values .entry)) 0 (now (bytes .entry)) size (now (starts .entry)) (now (bodies .entry)) [] policy) (now (working .entry)) first) first count from q (now (targets .entry)) (now (labels .entry)) (now («weak_from» .entry)) (now («weak_to» .entry)) (now (working .entry)) (now (account .entry)) (now (targets .exit)) (now (labels .exit)) (now («weak_from» .exit)) (now («weak_to» .exit)) (now (working .exit)) (now (account .exit)) ⌝ }
+    ensures { λ q. ⌜ Walked (now (ids .entry)) (partsFrom (rawInput (now (ids .entry)) (now (kinds .entry)) (now (classes .entry)) (now (lengths .entry)) [] (now (loaders .entry)) [] (now («class_kinds» .entry)) (now («slot_starts» .entry)) (now («slot_ends» .entry)) (now («static_starts» .entry)) (now («static_ends» .entry)) (now («slot_offsets» .entry)) (now («slot_labels» .entry)) (now («slot_weak» .entry)) (now («static_names» .entry)) (now («static_types» .entry)) (now («static_values» .entry)) 0 (now (bytes .entry)) size (now (starts .entry)) (now (bodies .entry)) [] policy) (now (working .entry)) first) first count from q (now (targets .entry)) (now (labels .entry)) (now («weak_from» .entry)) (now («weak_to» .entry)) (now (working .entry)) (now (account .entry)) (now (targets .exit)) (now (labels .exit)) (now («weak_from» .exit)) (now («weak_to» .exit)) (now (working .exit)) (now (account .exit)) ⌝ }
 {
     let mut s = from;
     let mut k = 0;
@@ -72,18 +72,18 @@ pub fn walk_raw(
             bytes,
             size,
             class_kinds,
-            slot_start,
-            slot_end,
+            slot_starts,
+            slot_ends,
             slot_offsets,
             slot_labels,
             slot_weak,
             loaders,
-            static_start,
-            static_end,
-            names,
-            types,
-            values,
-            hints,
+            static_starts,
+            static_ends,
+            static_names,
+            static_types,
+            static_values,
+            short,
             scale,
             targets,
             labels,
@@ -107,16 +107,16 @@ pub fn edges_raw(
     loaders: &[u64],
     dumped: &[u8],
     class_kinds: &[u8],
-    slot_start: &[u32],
-    slot_end: &[u32],
-    static_start: &[u32],
-    static_end: &[u32],
+    slot_starts: &[u32],
+    slot_ends: &[u32],
+    static_starts: &[u32],
+    static_ends: &[u32],
     slot_offsets: &[u32],
     slot_labels: &[u32],
     slot_weak: &[u8],
-    names: &[u32],
-    types: &[u8],
-    values: &[u64],
+    static_names: &[u32],
+    static_types: &[u8],
+    static_values: &[u64],
     name_count: usize,
     bytes: &[u8],
     size: usize,
@@ -124,7 +124,7 @@ pub fn edges_raw(
     bodies: &[u32],
     roots: &[u32],
     policy: rules::ReferencePolicy,
-    hints: &[u16],
+    short: &[u16],
     working: &mut [u64],
     targets: &mut [u32],
     labels: &mut [u32],
@@ -132,13 +132,13 @@ pub fn edges_raw(
     weak_to: &mut [u32],
     account: &mut [[u64; 3]; 4],
 ) -> rules::Built
-    requires { ⌜ (accepts (builtSays v) ≡ true → Handed (rawInput (now ids) (now kinds) (now classes) (now lengths) (now «class_ids») (now loaders) (now dumped) (now «class_kinds») (now «slot_start») (now «slot_end») (now «static_start») (now «static_end») (now «slot_offsets») (now «slot_labels») (now «slot_weak») (now names) (now types) (now values) «name_count» (now bytes) size (now starts) (now bodies) (now roots) policy) (length (now targets)) (length (now labels)) (length (now «weak_from»)) (length (now «weak_to»)) (now working) (now account)) ⌝ }
-    ensures { λ r. ⌜ Edged (rawInput (now (ids .entry)) (now (kinds .entry)) (now (classes .entry)) (now (lengths .entry)) (now («class_ids» .entry)) (now (loaders .entry)) (now (dumped .entry)) (now («class_kinds» .entry)) (now («slot_start» .entry)) (now («slot_end» .entry)) (now («static_start» .entry)) (now («static_end» .entry)) (now («slot_offsets» .entry)) (now («slot_labels» .entry)) (now («slot_weak» .entry)) (now (names .entry)) (now (types .entry)) (now (values .entry)) «name_count» (now (bytes .entry)) size (now (starts .entry)) (now (bodies .entry)) (now (roots .entry)) policy) v r (now (targets .entry)) (now (labels .entry)) (now («weak_from» .entry)) (now («weak_to» .entry)) (now (working .entry)) (now (targets .exit)) (now (labels .exit)) (now («weak_from» .exit)) (now («weak_to» .exit)) (now (working .exit)) (now (account .exit)) ⌝ }
+    requires { ⌜ (accepts (builtSays v) ≡ true → Handed (rawInput (now ids) (now kinds) (now classes) (now lengths) (now «class_ids») (now loaders) (now dumped) (now «class_kinds») (now «slot_starts») (now «slot_ends») (now «static_starts») (now «static_ends») (now «slot_offsets») (now «slot_labels») (now «slot_weak») (now «static_names») (now «static_types») (now «static_values») «name_count» (now bytes) size (now starts) (now bodies) (now roots) policy) (length (now targets)) (length (now labels)) (length (now «weak_from»)) (length (now «weak_to»)) (now working) (now account)) ⌝ }
+    ensures { λ r. ⌜ Edged (rawInput (now (ids .entry)) (now (kinds .entry)) (now (classes .entry)) (now (lengths .entry)) (now («class_ids» .entry)) (now (loaders .entry)) (now (dumped .entry)) (now («class_kinds» .entry)) (now («slot_starts» .entry)) (now («slot_ends» .entry)) (now («static_starts» .entry)) (now («static_ends» .entry)) (now («slot_offsets» .entry)) (now («slot_labels» .entry)) (now («slot_weak» .entry)) (now («static_names» .entry)) (now («static_types» .entry)) (now («static_values» .entry)) «name_count» (now (bytes .entry)) size (now (starts .entry)) (now (bodies .entry)) (now (roots .entry)) policy) v r (now (targets .entry)) (now (labels .entry)) (now («weak_from» .entry)) (now («weak_to» .entry)) (now (working .entry)) (now (targets .exit)) (now (labels .exit)) (now («weak_from» .exit)) (now («weak_to» .exit)) (now (working .exit)) (now (account .exit)) ⌝ }
 {
     if !rules::accepted(v) {
         return v;
     }
-    let scale = lookup::hints::scale(ids, hints.len());
+    let scale = lookup::hints::scale(ids, short.len());
     let q = walk_raw(
         Pass::begun(),
         0,
@@ -154,18 +154,18 @@ pub fn edges_raw(
         bytes,
         size,
         class_kinds,
-        slot_start,
-        slot_end,
+        slot_starts,
+        slot_ends,
         slot_offsets,
         slot_labels,
         slot_weak,
         loaders,
-        static_start,
-        static_end,
-        names,
-        types,
-        values,
-        hints,
+        static_starts,
+        static_ends,
+        static_names,
+        static_types,
+        static_values,
+        short,
         scale,
         targets,
         labels,

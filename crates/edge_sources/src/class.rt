@@ -14,31 +14,31 @@ const OBJECT: u8 = 2;
 fn append_static(
     s: Pass,
     ids: &[u64],
-    names: &[u32],
-    types: &[u8],
-    values: &[u64],
+    static_names: &[u32],
+    static_types: &[u8],
+    static_values: &[u64],
     place: usize,
-    hints: &[u16],
+    short: &[u16],
     scale: u32,
     targets: &mut [u32],
     labels: &mut [u32],
     weak: &mut [u32],
 ) -> Pass
-    requires { ⌜ (place < length (now names)) × (place < length (now types)) × (place < length (now values)) ⌝ }
-    requires { ⌜ Room (now ids) (staticAt (now names) (now types) (now values) place) s (length (now targets)) (length (now labels)) (length (now weak)) ⌝ }
-    ensures { λ q. ⌜ Appended (now (ids .entry)) (staticAt (now (names .entry)) (now (types .entry)) (now (values .entry)) place) s q (now (targets .entry)) (now (labels .entry)) (now (weak .entry)) (now (targets .exit)) (now (labels .exit)) (now (weak .exit)) ⌝ }
+    requires { ⌜ (place < length (now «static_names»)) × (place < length (now «static_types»)) × (place < length (now «static_values»)) ⌝ }
+    requires { ⌜ Room (now ids) (staticAt (now «static_names») (now «static_types») (now «static_values») place) s (length (now targets)) (length (now labels)) (length (now weak)) ⌝ }
+    ensures { λ q. ⌜ Appended (now (ids .entry)) (staticAt (now («static_names» .entry)) (now («static_types» .entry)) (now («static_values» .entry)) place) s q (now (targets .entry)) (now (labels .entry)) (now (weak .entry)) (now (targets .exit)) (now (labels .exit)) (now (weak .exit)) ⌝ }
 {
-    if types[place] != OBJECT {
+    if static_types[place] != OBJECT {
         return s;
     }
     append::append(
         s,
         ids,
         append::STATIC,
-        names[place],
+        static_names[place],
         true,
-        values[place],
-        hints,
+        static_values[place],
+        short,
         scale,
         targets,
         labels,
@@ -49,20 +49,20 @@ fn append_static(
 fn statics(
     from: Pass,
     ids: &[u64],
-    names: &[u32],
-    types: &[u8],
-    values: &[u64],
+    static_names: &[u32],
+    static_types: &[u8],
+    static_values: &[u64],
     first: usize,
     count: usize,
-    hints: &[u16],
+    short: &[u16],
     scale: u32,
     targets: &mut [u32],
     labels: &mut [u32],
     weak: &mut [u32],
 ) -> Pass
-    requires { ⌜ (first + count ≤ length (now names)) × (first + count ≤ length (now types)) × (first + count ≤ length (now values)) ⌝ }
-    requires { ⌜ Room (now ids) (collect (staticFrom (now names) (now types) (now values) first) count) from (length (now targets)) (length (now labels)) (length (now weak)) ⌝ }
-    ensures { λ q. ⌜ Appended (now (ids .entry)) (collect (staticFrom (now (names .entry)) (now (types .entry)) (now (values .entry)) first) count) from q (now (targets .entry)) (now (labels .entry)) (now (weak .entry)) (now (targets .exit)) (now (labels .exit)) (now (weak .exit)) ⌝ }
+    requires { ⌜ (first + count ≤ length (now «static_names»)) × (first + count ≤ length (now «static_types»)) × (first + count ≤ length (now «static_values»)) ⌝ }
+    requires { ⌜ Room (now ids) (collect (staticFrom (now «static_names») (now «static_types») (now «static_values») first) count) from (length (now targets)) (length (now labels)) (length (now weak)) ⌝ }
+    ensures { λ q. ⌜ Appended (now (ids .entry)) (collect (staticFrom (now («static_names» .entry)) (now («static_types» .entry)) (now («static_values» .entry)) first) count) from q (now (targets .entry)) (now (labels .entry)) (now (weak .entry)) (now (targets .exit)) (now (labels .exit)) (now (weak .exit)) ⌝ }
 {
     let mut s = from;
     let mut k = 0;
@@ -70,11 +70,11 @@ fn statics(
         s = append_static(
             s,
             ids,
-            names,
-            types,
-            values,
+            static_names,
+            static_types,
+            static_values,
             first + k,
-            hints,
+            short,
             scale,
             targets,
             labels,
@@ -89,36 +89,36 @@ fn statics(
 pub fn found_statics(
     s: Pass,
     ids: &[u64],
-    static_start: &[u32],
-    static_end: &[u32],
-    names: &[u32],
-    types: &[u8],
-    values: &[u64],
+    static_starts: &[u32],
+    static_ends: &[u32],
+    static_names: &[u32],
+    static_types: &[u8],
+    static_values: &[u64],
     mark: usize,
-    hints: &[u16],
+    short: &[u16],
     scale: u32,
     targets: &mut [u32],
     labels: &mut [u32],
     weak: &mut [u32],
 ) -> Pass
-    requires { ⌜ StaticsIn (now «static_start») (now «static_end») (length (now names)) (length (now types)) (length (now values)) mark ⌝ }
-    requires { ⌜ Room (now ids) (staticsAt (now «static_start») (now «static_end») (now names) (now types) (now values) mark) s (length (now targets)) (length (now labels)) (length (now weak)) ⌝ }
-    ensures { λ q. ⌜ Appended (now (ids .entry)) (staticsAt (now («static_start» .entry)) (now («static_end» .entry)) (now (names .entry)) (now (types .entry)) (now (values .entry)) mark) s q (now (targets .entry)) (now (labels .entry)) (now (weak .entry)) (now (targets .exit)) (now (labels .exit)) (now (weak .exit)) ⌝ }
+    requires { ⌜ StaticsIn (now «static_starts») (now «static_ends») (length (now «static_names»)) (length (now «static_types»)) (length (now «static_values»)) mark ⌝ }
+    requires { ⌜ Room (now ids) (staticsAt (now «static_starts») (now «static_ends») (now «static_names») (now «static_types») (now «static_values») mark) s (length (now targets)) (length (now labels)) (length (now weak)) ⌝ }
+    ensures { λ q. ⌜ Appended (now (ids .entry)) (staticsAt (now («static_starts» .entry)) (now («static_ends» .entry)) (now («static_names» .entry)) (now («static_types» .entry)) (now («static_values» .entry)) mark) s q (now (targets .entry)) (now (labels .entry)) (now (weak .entry)) (now (targets .exit)) (now (labels .exit)) (now (weak .exit)) ⌝ }
 {
     if mark == 0 {
         return s;
     }
-    let first = columns::index(static_start[mark - 1]);
-    let count = columns::index(static_end[mark - 1]) - first;
+    let first = columns::index(static_starts[mark - 1]);
+    let count = columns::index(static_ends[mark - 1]) - first;
     statics(
         s,
         ids,
-        names,
-        types,
-        values,
+        static_names,
+        static_types,
+        static_values,
         first,
         count,
-        hints,
+        short,
         scale,
         targets,
         labels,
@@ -132,7 +132,7 @@ pub fn found_loader(
     ids: &[u64],
     loaders: &[u64],
     mark: usize,
-    hints: &[u16],
+    short: &[u16],
     scale: u32,
     targets: &mut [u32],
     labels: &mut [u32],
@@ -152,7 +152,7 @@ pub fn found_loader(
         rules::Label::LOADER,
         true,
         loaders[mark - 1],
-        hints,
+        short,
         scale,
         targets,
         labels,

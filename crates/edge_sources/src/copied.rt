@@ -44,7 +44,7 @@ fn slots(
     keeps: bool,
     first: usize,
     count: usize,
-    hints: &[u16],
+    short: &[u16],
     scale: u32,
     targets: &mut [u32],
     labels: &mut [u32],
@@ -69,7 +69,7 @@ fn slots(
             keeps,
             first + k,
             read.id,
-            hints,
+            short,
             scale,
             targets,
             labels,
@@ -91,7 +91,7 @@ fn elements(
     start: usize,
     row: usize,
     count: usize,
-    hints: &[u16],
+    short: &[u16],
     scale: u32,
     targets: &mut [u32],
     labels: &mut [u32],
@@ -108,7 +108,7 @@ fn elements(
     while k < count {
         let read = id_from(codes, escape_places, escape_ids, base, start + k, cursor);
         cursor = read.row;
-        s = append::append_element(s, ids, k, read.id, hints, scale, targets, labels, weak);
+        s = append::append_element(s, ids, k, read.id, short, scale, targets, labels, weak);
         k += 1;
     }
     s
@@ -125,30 +125,30 @@ pub fn object_slots(
     start: usize,
     row: usize,
     class_kinds: &[u8],
-    slot_start: &[u32],
-    slot_end: &[u32],
+    slot_starts: &[u32],
+    slot_ends: &[u32],
     slot_labels: &[u32],
     slot_weak: &[u8],
     policy: rules::ReferencePolicy,
     kind: u8,
     class: usize,
-    hints: &[u16],
+    short: &[u16],
     scale: u32,
     targets: &mut [u32],
     labels: &mut [u32],
     weak: &mut [u32],
 ) -> Pass
     requires { ⌜ Rises (now «escape_places») ⌝ }
-    requires { ⌜ SlotsIn (now «class_kinds») (now «slot_start») (now «slot_end») (length (now «slot_labels»)) (length (now «slot_weak»)) kind class start ⌝ }
-    requires { ⌜ Room (now ids) (copiedSlots (idsOf (now codes) (now «escape_places») (now «escape_ids») base) start (now «class_kinds») (now «slot_start») (now «slot_end») (now «slot_labels») (now «slot_weak») policy kind class) s (length (now targets)) (length (now labels)) (length (now weak)) ⌝ }
-    ensures { λ q. ⌜ Appended (now (ids .entry)) (copiedSlots (idsOf (now (codes .entry)) (now («escape_places» .entry)) (now («escape_ids» .entry)) base) start (now («class_kinds» .entry)) (now («slot_start» .entry)) (now («slot_end» .entry)) (now («slot_labels» .entry)) (now («slot_weak» .entry)) policy kind class) s q (now (targets .entry)) (now (labels .entry)) (now (weak .entry)) (now (targets .exit)) (now (labels .exit)) (now (weak .exit)) ⌝ }
+    requires { ⌜ SlotsIn (now «class_kinds») (now «slot_starts») (now «slot_ends») (length (now «slot_labels»)) (length (now «slot_weak»)) kind class start ⌝ }
+    requires { ⌜ Room (now ids) (copiedSlots (idsOf (now codes) (now «escape_places») (now «escape_ids») base) start (now «class_kinds») (now «slot_starts») (now «slot_ends») (now «slot_labels») (now «slot_weak») policy kind class) s (length (now targets)) (length (now labels)) (length (now weak)) ⌝ }
+    ensures { λ q. ⌜ Appended (now (ids .entry)) (copiedSlots (idsOf (now (codes .entry)) (now («escape_places» .entry)) (now («escape_ids» .entry)) base) start (now («class_kinds» .entry)) (now («slot_starts» .entry)) (now («slot_ends» .entry)) (now («slot_labels» .entry)) (now («slot_weak» .entry)) policy kind class) s q (now (targets .entry)) (now (labels .entry)) (now (weak .entry)) (now (targets .exit)) (now (labels .exit)) (now (weak .exit)) ⌝ }
 {
     if kind != rules::Kind::INSTANCE {
         return s;
     }
     let keeps = policy.keeps(class_kinds[class]);
-    let first = columns::index(slot_start[class]);
-    let count = columns::index(slot_end[class]) - first;
+    let first = columns::index(slot_starts[class]);
+    let count = columns::index(slot_ends[class]) - first;
     slots(
         s,
         ids,
@@ -163,7 +163,7 @@ pub fn object_slots(
         keeps,
         first,
         count,
-        hints,
+        short,
         scale,
         targets,
         labels,
@@ -183,7 +183,7 @@ pub fn object_elements(
     row: usize,
     kind: u8,
     count: usize,
-    hints: &[u16],
+    short: &[u16],
     scale: u32,
     targets: &mut [u32],
     labels: &mut [u32],
@@ -207,7 +207,7 @@ pub fn object_elements(
         start,
         row,
         count,
-        hints,
+        short,
         scale,
         targets,
         labels,

@@ -76,7 +76,7 @@ fn slots(
     keeps: bool,
     first: usize,
     count: usize,
-    hints: &[u16],
+    short: &[u16],
     scale: u32,
     targets: &mut [u32],
     labels: &mut [u32],
@@ -103,7 +103,7 @@ fn slots(
             keeps,
             first + k,
             id,
-            hints,
+            short,
             scale,
             targets,
             labels,
@@ -122,7 +122,7 @@ fn elements(
     size: usize,
     start: usize,
     count: usize,
-    hints: &[u16],
+    short: &[u16],
     scale: u32,
     targets: &mut [u32],
     labels: &mut [u32],
@@ -137,7 +137,7 @@ fn elements(
     let mut k = 0;
     while k < count {
         let id = id_at_bytes(bytes, at, size);
-        s = append::append_element(s, ids, k, id, hints, scale, targets, labels, weak);
+        s = append::append_element(s, ids, k, id, short, scale, targets, labels, weak);
         at += size;
         k += 1;
     }
@@ -153,32 +153,32 @@ pub fn object_slots(
     start: usize,
     body: usize,
     class_kinds: &[u8],
-    slot_start: &[u32],
-    slot_end: &[u32],
+    slot_starts: &[u32],
+    slot_ends: &[u32],
     slot_offsets: &[u32],
     slot_labels: &[u32],
     slot_weak: &[u8],
     policy: rules::ReferencePolicy,
     kind: u8,
     class: usize,
-    hints: &[u16],
+    short: &[u16],
     scale: u32,
     targets: &mut [u32],
     labels: &mut [u32],
     weak: &mut [u32],
 ) -> Pass
-    requires { ⌜ SlotsIn (now «class_kinds») (now «slot_start») (now «slot_end») (length (now «slot_labels»)) (length (now «slot_weak»)) kind class 0 ⌝ }
+    requires { ⌜ SlotsIn (now «class_kinds») (now «slot_starts») (now «slot_ends») (length (now «slot_labels»)) (length (now «slot_weak»)) kind class 0 ⌝ }
     requires { ⌜ length (now «slot_offsets») ≡ length (now «slot_labels») ⌝ }
     requires { ⌜ (kind ≡ 0 → BodyIn (length (now bytes)) size start body) ⌝ }
-    requires { ⌜ Room (now ids) (rawSlots (now bytes) size start body (now «class_kinds») (now «slot_start») (now «slot_end») (now «slot_offsets») (now «slot_labels») (now «slot_weak») policy kind class) s (length (now targets)) (length (now labels)) (length (now weak)) ⌝ }
-    ensures { λ q. ⌜ Appended (now (ids .entry)) (rawSlots (now (bytes .entry)) size start body (now («class_kinds» .entry)) (now («slot_start» .entry)) (now («slot_end» .entry)) (now («slot_offsets» .entry)) (now («slot_labels» .entry)) (now («slot_weak» .entry)) policy kind class) s q (now (targets .entry)) (now (labels .entry)) (now (weak .entry)) (now (targets .exit)) (now (labels .exit)) (now (weak .exit)) ⌝ }
+    requires { ⌜ Room (now ids) (rawSlots (now bytes) size start body (now «class_kinds») (now «slot_starts») (now «slot_ends») (now «slot_offsets») (now «slot_labels») (now «slot_weak») policy kind class) s (length (now targets)) (length (now labels)) (length (now weak)) ⌝ }
+    ensures { λ q. ⌜ Appended (now (ids .entry)) (rawSlots (now (bytes .entry)) size start body (now («class_kinds» .entry)) (now («slot_starts» .entry)) (now («slot_ends» .entry)) (now («slot_offsets» .entry)) (now («slot_labels» .entry)) (now («slot_weak» .entry)) policy kind class) s q (now (targets .entry)) (now (labels .entry)) (now (weak .entry)) (now (targets .exit)) (now (labels .exit)) (now (weak .exit)) ⌝ }
 {
     if kind != rules::Kind::INSTANCE {
         return s;
     }
     let keeps = policy.keeps(class_kinds[class]);
-    let first = columns::index(slot_start[class]);
-    let count = columns::index(slot_end[class]) - first;
+    let first = columns::index(slot_starts[class]);
+    let count = columns::index(slot_ends[class]) - first;
     slots(
         s,
         ids,
@@ -192,7 +192,7 @@ pub fn object_slots(
         keeps,
         first,
         count,
-        hints,
+        short,
         scale,
         targets,
         labels,
@@ -209,7 +209,7 @@ pub fn object_elements(
     start: usize,
     kind: u8,
     count: usize,
-    hints: &[u16],
+    short: &[u16],
     scale: u32,
     targets: &mut [u32],
     labels: &mut [u32],
@@ -229,7 +229,7 @@ pub fn object_elements(
         size,
         start,
         count,
-        hints,
+        short,
         scale,
         targets,
         labels,

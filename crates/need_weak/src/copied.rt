@@ -51,16 +51,16 @@ fn object(
     base: u64,
     start: usize,
     class_kinds: &[u8],
-    slot_start: &[u32],
-    slot_end: &[u32],
+    slot_starts: &[u32],
+    slot_ends: &[u32],
     slot_weak: &[u8],
     policy: rules::ReferencePolicy,
     kind: u8,
     class: usize,
     guess: usize,
 ) -> usize
-    requires { ⌜ Rises (now ids) × SlotsIn (now «class_kinds») (now «slot_start») (now «slot_end») (length (now «slot_weak»)) (length (now «slot_weak»)) kind class start ⌝ }
-    ensures { λ r. ⌜ Few (copiedPairs (now (ids .entry)) (idsOf (now (codes .entry)) (now («escape_places» .entry)) (now («escape_ids» .entry)) base) start (now («class_kinds» .entry)) (now («slot_start» .entry)) (now («slot_end» .entry)) (now («slot_weak» .entry)) policy kind class) (length (now («slot_weak» .entry))) r ⌝ }
+    requires { ⌜ Rises (now ids) × SlotsIn (now «class_kinds») (now «slot_starts») (now «slot_ends») (length (now «slot_weak»)) (length (now «slot_weak»)) kind class start ⌝ }
+    ensures { λ r. ⌜ Few (copiedPairs (now (ids .entry)) (idsOf (now (codes .entry)) (now («escape_places» .entry)) (now («escape_ids» .entry)) base) start (now («class_kinds» .entry)) (now («slot_starts» .entry)) (now («slot_ends» .entry)) (now («slot_weak» .entry)) policy kind class) (length (now («slot_weak» .entry))) r ⌝ }
 {
     if kind != rules::Kind::INSTANCE {
         return 0;
@@ -68,8 +68,8 @@ fn object(
     if policy.keeps(class_kinds[class]) {
         return 0;
     }
-    let first = columns::index(slot_start[class]);
-    let count = columns::index(slot_end[class]) - first;
+    let first = columns::index(slot_starts[class]);
+    let count = columns::index(slot_ends[class]) - first;
     slots(
         ids,
         codes,
@@ -95,14 +95,14 @@ pub fn count_weak_copied(
     escape_ids: &[u64],
     base: u64,
     class_kinds: &[u8],
-    slot_start: &[u32],
-    slot_end: &[u32],
+    slot_starts: &[u32],
+    slot_ends: &[u32],
     slot_weak: &[u8],
     policy: rules::ReferencePolicy,
 ) -> usize
     requires { ⌜ ObjectsIn (now ids) (now kinds) (now classes) (now starts) × (length (now «slot_weak») ≤ 268435456) ⌝ }
-    requires { ⌜ ((o : ℕ) → o < length (now ids) → SlotsIn (now «class_kinds») (now «slot_start») (now «slot_end») (length (now «slot_weak»)) (length (now «slot_weak»)) (now kinds ! o) (now classes ! o) (now starts ! o)) ⌝ }
-    ensures { λ r. ⌜ r ≡ copiedTotal (now (ids .entry)) (now (kinds .entry)) (now (classes .entry)) (now (starts .entry)) (idsOf (now (codes .entry)) (now («escape_places» .entry)) (now («escape_ids» .entry)) base) (now («class_kinds» .entry)) (now («slot_start» .entry)) (now («slot_end» .entry)) (now («slot_weak» .entry)) policy (length (now (ids .entry))) ⌝ }
+    requires { ⌜ ((o : ℕ) → o < length (now ids) → SlotsIn (now «class_kinds») (now «slot_starts») (now «slot_ends») (length (now «slot_weak»)) (length (now «slot_weak»)) (now kinds ! o) (now classes ! o) (now starts ! o)) ⌝ }
+    ensures { λ r. ⌜ r ≡ copiedTotal (now (ids .entry)) (now (kinds .entry)) (now (classes .entry)) (now (starts .entry)) (idsOf (now (codes .entry)) (now («escape_places» .entry)) (now («escape_ids» .entry)) base) (now («class_kinds» .entry)) (now («slot_starts» .entry)) (now («slot_ends» .entry)) (now («slot_weak» .entry)) policy (length (now (ids .entry))) ⌝ }
 {
     let mut n: usize = 0;
     let mut o = 0;
@@ -115,8 +115,8 @@ pub fn count_weak_copied(
             base,
             columns::index(starts[o]),
             class_kinds,
-            slot_start,
-            slot_end,
+            slot_starts,
+            slot_ends,
             slot_weak,
             policy,
             kinds[o],

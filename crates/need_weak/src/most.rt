@@ -32,25 +32,25 @@ fn slots(slot_weak: &[u8], first: usize, count: usize) -> usize
 // Whether a class is of kind none and may have a weak slot: one that has no range of slots inside the table may.
 fn class_weak(
     class_kinds: &[u8],
-    slot_start: &[u32],
-    slot_end: &[u32],
+    slot_starts: &[u32],
+    slot_ends: &[u32],
     slot_weak: &[u8],
     class: usize,
 ) -> bool
     requires { ⌜ class < length (now «class_kinds») ⌝ }
-    ensures { λ r. ⌜ r ≡ plainWeak (now («class_kinds» .entry)) (now («slot_start» .entry)) (now («slot_end» .entry)) (now («slot_weak» .entry)) class ⌝ }
+    ensures { λ r. ⌜ r ≡ plainWeak (now («class_kinds» .entry)) (now («slot_starts» .entry)) (now («slot_ends» .entry)) (now («slot_weak» .entry)) class ⌝ }
 {
     if class_kinds[class] != rules::RefKind::NONE {
         return false;
     }
-    if slot_start.len() <= class {
+    if slot_starts.len() <= class {
         return true;
     }
-    if slot_end.len() <= class {
+    if slot_ends.len() <= class {
         return true;
     }
-    let first = columns::index(slot_start[class]);
-    let last = columns::index(slot_end[class]);
+    let first = columns::index(slot_starts[class]);
+    let last = columns::index(slot_ends[class]);
     if last < first {
         return true;
     }
@@ -61,12 +61,12 @@ fn class_weak(
 }
 
 // Whether any class is: hardly ever, and then most instances need no look at their slots.
-fn plain_weak(class_kinds: &[u8], slot_start: &[u32], slot_end: &[u32], slot_weak: &[u8]) -> bool
-    ensures { λ r. ⌜ r ≡ any (plainWeak (now («class_kinds» .entry)) (now («slot_start» .entry)) (now («slot_end» .entry)) (now («slot_weak» .entry))) (length (now («class_kinds» .entry))) ⌝ }
+fn plain_weak(class_kinds: &[u8], slot_starts: &[u32], slot_ends: &[u32], slot_weak: &[u8]) -> bool
+    ensures { λ r. ⌜ r ≡ any (plainWeak (now («class_kinds» .entry)) (now («slot_starts» .entry)) (now («slot_ends» .entry)) (now («slot_weak» .entry))) (length (now («class_kinds» .entry))) ⌝ }
 {
     let mut class = 0;
     while class < class_kinds.len() {
-        if class_weak(class_kinds, slot_start, slot_end, slot_weak, class) {
+        if class_weak(class_kinds, slot_starts, slot_ends, slot_weak, class) {
             return true;
         }
         class += 1;
@@ -88,17 +88,17 @@ fn is_plain(mixed: bool, class_kind: u8) -> bool
 // Those of one object: none unless it is an instance, none where its class's slots need no look, and none where its class's kind is kept.
 fn object(
     class_kinds: &[u8],
-    slot_start: &[u32],
-    slot_end: &[u32],
+    slot_starts: &[u32],
+    slot_ends: &[u32],
     slot_weak: &[u8],
     policy: rules::ReferencePolicy,
     mixed: bool,
     kind: u8,
     class: usize,
 ) -> usize
-    requires { ⌜ SlotsIn (now «class_kinds») (now «slot_start») (now «slot_end») (length (now «slot_weak»)) (length (now «slot_weak»)) kind class 0 ⌝ }
-    requires { ⌜ mixed ≡ any (plainWeak (now «class_kinds») (now «slot_start») (now «slot_end») (now «slot_weak»)) (length (now «class_kinds»)) ⌝ }
-    ensures { λ r. ⌜ Few (mostPairs (now («class_kinds» .entry)) (now («slot_start» .entry)) (now («slot_end» .entry)) (now («slot_weak» .entry)) policy kind class) (length (now («slot_weak» .entry))) r ⌝ }
+    requires { ⌜ SlotsIn (now «class_kinds») (now «slot_starts») (now «slot_ends») (length (now «slot_weak»)) (length (now «slot_weak»)) kind class 0 ⌝ }
+    requires { ⌜ mixed ≡ any (plainWeak (now «class_kinds») (now «slot_starts») (now «slot_ends») (now «slot_weak»)) (length (now «class_kinds»)) ⌝ }
+    ensures { λ r. ⌜ Few (mostPairs (now («class_kinds» .entry)) (now («slot_starts» .entry)) (now («slot_ends» .entry)) (now («slot_weak» .entry)) policy kind class) (length (now («slot_weak» .entry))) r ⌝ }
 {
     if kind != rules::Kind::INSTANCE {
         return 0;
@@ -109,8 +109,8 @@ fn object(
     if policy.keeps(class_kinds[class]) {
         return 0;
     }
-    let first = columns::index(slot_start[class]);
-    let count = columns::index(slot_end[class]) - first;
+    let first = columns::index(slot_starts[class]);
+    let count = columns::index(slot_ends[class]) - first;
     slots(slot_weak, first, count)
 }
 
@@ -119,23 +119,23 @@ pub fn most_weak(
     kinds: &[u8],
     classes: &[u32],
     class_kinds: &[u8],
-    slot_start: &[u32],
-    slot_end: &[u32],
+    slot_starts: &[u32],
+    slot_ends: &[u32],
     slot_weak: &[u8],
     policy: rules::ReferencePolicy,
 ) -> usize
     requires { ⌜ (length (now kinds) ≤ 67108864) × (length (now kinds) ≤ length (now classes)) × (length (now «slot_weak») ≤ 268435456) ⌝ }
-    requires { ⌜ ((o : ℕ) → o < length (now kinds) → SlotsIn (now «class_kinds») (now «slot_start») (now «slot_end») (length (now «slot_weak»)) (length (now «slot_weak»)) (now kinds ! o) (now classes ! o) 0) ⌝ }
-    ensures { λ r. ⌜ r ≡ mostWeak (now (kinds .entry)) (now (classes .entry)) (now («class_kinds» .entry)) (now («slot_start» .entry)) (now («slot_end» .entry)) (now («slot_weak» .entry)) policy (length (now (kinds .entry))) ⌝ }
+    requires { ⌜ ((o : ℕ) → o < length (now kinds) → SlotsIn (now «class_kinds») (now «slot_starts») (now «slot_ends») (length (now «slot_weak»)) (length (now «slot_weak»)) (now kinds ! o) (now classes ! o) 0) ⌝ }
+    ensures { λ r. ⌜ r ≡ mostWeak (now (kinds .entry)) (now (classes .entry)) (now («class_kinds» .entry)) (now («slot_starts» .entry)) (now («slot_ends» .entry)) (now («slot_weak» .entry)) policy (length (now (kinds .entry))) ⌝ }
 {
-    let mixed = plain_weak(class_kinds, slot_start, slot_end, slot_weak);
+    let mixed = plain_weak(class_kinds, slot_starts, slot_ends, slot_weak);
     let mut n: usize = 0;
     let mut o = 0;
     while o < kinds.len() {
         n += object(
             class_kinds,
-            slot_start,
-            slot_end,
+            slot_starts,
+            slot_ends,
             slot_weak,
             policy,
             mixed,

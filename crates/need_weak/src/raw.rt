@@ -64,8 +64,8 @@ fn object(
     start: usize,
     body: usize,
     class_kinds: &[u8],
-    slot_start: &[u32],
-    slot_end: &[u32],
+    slot_starts: &[u32],
+    slot_ends: &[u32],
     slot_offsets: &[u32],
     slot_weak: &[u8],
     policy: rules::ReferencePolicy,
@@ -73,9 +73,9 @@ fn object(
     class: usize,
     guess: usize,
 ) -> usize
-    requires { ⌜ Rises (now ids) × SlotsIn (now «class_kinds») (now «slot_start») (now «slot_end») (length (now «slot_offsets»)) (length (now «slot_weak»)) kind class 0 ⌝ }
+    requires { ⌜ Rises (now ids) × SlotsIn (now «class_kinds») (now «slot_starts») (now «slot_ends») (length (now «slot_offsets»)) (length (now «slot_weak»)) kind class 0 ⌝ }
     requires { ⌜ (kind ≡ 0 → BodyIn (length (now bytes)) size start body) ⌝ }
-    ensures { λ r. ⌜ Few (rawPairs (now (ids .entry)) (now (bytes .entry)) size start body (now («class_kinds» .entry)) (now («slot_start» .entry)) (now («slot_end» .entry)) (now («slot_offsets» .entry)) (now («slot_weak» .entry)) policy kind class) (length (now («slot_weak» .entry))) r ⌝ }
+    ensures { λ r. ⌜ Few (rawPairs (now (ids .entry)) (now (bytes .entry)) size start body (now («class_kinds» .entry)) (now («slot_starts» .entry)) (now («slot_ends» .entry)) (now («slot_offsets» .entry)) (now («slot_weak» .entry)) policy kind class) (length (now («slot_weak» .entry))) r ⌝ }
 {
     if kind != rules::Kind::INSTANCE {
         return 0;
@@ -83,8 +83,8 @@ fn object(
     if policy.keeps(class_kinds[class]) {
         return 0;
     }
-    let first = columns::index(slot_start[class]);
-    let count = columns::index(slot_end[class]) - first;
+    let first = columns::index(slot_starts[class]);
+    let count = columns::index(slot_ends[class]) - first;
     slots(
         ids,
         bytes,
@@ -109,16 +109,16 @@ pub fn count_weak_raw(
     bytes: &[u8],
     size: usize,
     class_kinds: &[u8],
-    slot_start: &[u32],
-    slot_end: &[u32],
+    slot_starts: &[u32],
+    slot_ends: &[u32],
     slot_offsets: &[u32],
     slot_weak: &[u8],
     policy: rules::ReferencePolicy,
 ) -> usize
     requires { ⌜ ObjectsIn (now ids) (now kinds) (now classes) (now starts) × (length (now ids) ≤ length (now bodies)) × (length (now «slot_weak») ≤ 268435456) ⌝ }
-    requires { ⌜ ((o : ℕ) → o < length (now ids) → SlotsIn (now «class_kinds») (now «slot_start») (now «slot_end») (length (now «slot_offsets»)) (length (now «slot_weak»)) (now kinds ! o) (now classes ! o) 0) ⌝ }
+    requires { ⌜ ((o : ℕ) → o < length (now ids) → SlotsIn (now «class_kinds») (now «slot_starts») (now «slot_ends») (length (now «slot_offsets»)) (length (now «slot_weak»)) (now kinds ! o) (now classes ! o) 0) ⌝ }
     requires { ⌜ ((o : ℕ) → o < length (now ids) → now kinds ! o ≡ 0 → BodyIn (length (now bytes)) size (now starts ! o) (now bodies ! o)) ⌝ }
-    ensures { λ r. ⌜ r ≡ rawTotal (now (ids .entry)) (now (kinds .entry)) (now (classes .entry)) (now (starts .entry)) (now (bodies .entry)) (now (bytes .entry)) size (now («class_kinds» .entry)) (now («slot_start» .entry)) (now («slot_end» .entry)) (now («slot_offsets» .entry)) (now («slot_weak» .entry)) policy (length (now (ids .entry))) ⌝ }
+    ensures { λ r. ⌜ r ≡ rawTotal (now (ids .entry)) (now (kinds .entry)) (now (classes .entry)) (now (starts .entry)) (now (bodies .entry)) (now (bytes .entry)) size (now («class_kinds» .entry)) (now («slot_starts» .entry)) (now («slot_ends» .entry)) (now («slot_offsets» .entry)) (now («slot_weak» .entry)) policy (length (now (ids .entry))) ⌝ }
 {
     let mut n: usize = 0;
     let mut o = 0;
@@ -130,8 +130,8 @@ pub fn count_weak_raw(
             starts[o] as usize,
             columns::index(bodies[o]),
             class_kinds,
-            slot_start,
-            slot_end,
+            slot_starts,
+            slot_ends,
             slot_offsets,
             slot_weak,
             policy,

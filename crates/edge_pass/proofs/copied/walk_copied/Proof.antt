@@ -20,7 +20,7 @@ abbrev μ-loop : tie.MeasureT-loop
 μ-loop first count policy kinds classes lengths starts working₀ ids codes escape-places escape-ids base class-kinds slot-start slot-end slot-labels slot-weak loaders static-start static-end names types values hints scale targets₀ labels₀ weak-from₀ weak-to₀ account₀ s₀ row₀ k₀ working targets labels weak-from weak-to account s row k = count - k
 
 abbrev X : tie.Start Inv-loop μ-loop → Input
-X d = copiedInput (d .args .ids .now) (d .args .kinds .now) (d .args .classes .now) (d .args .lengths .now) [] (d .args .loaders .now) [] (d .args .class-kinds .now) (d .args .slot-start .now) (d .args .slot-end .now) (d .args .static-start .now) (d .args .static-end .now) [] (d .args .slot-labels .now) (d .args .slot-weak .now) (d .args .names .now) (d .args .types .now) (d .args .values .now) 0 (d .args .codes .now) (d .args .escape-places .now) (d .args .escape-ids .now) (d .args .base) (d .args .starts .now) [] (d .args .policy)
+X d = copiedInput (d .args .ids .now) (d .args .kinds .now) (d .args .classes .now) (d .args .lengths .now) [] (d .args .loaders .now) [] (d .args .class-kinds .now) (d .args .slot-starts .now) (d .args .slot-ends .now) (d .args .static-starts .now) (d .args .static-ends .now) [] (d .args .slot-labels .now) (d .args .slot-weak .now) (d .args .static-names .now) (d .args .static-types .now) (d .args .static-values .now) 0 (d .args .codes .now) (d .args .escape-places .now) (d .args .escape-ids .now) (d .args .base) (d .args .starts .now) [] (d .args .policy)
 
 loop-holds : tie.Need-loop-holds Inv-loop μ-loop
 loop-holds c =

@@ -8,7 +8,7 @@ use Rattle.edge_sources.proofs.class.append_static.Tie as tie
 append-requires : tie.Need-append-requires
 append-requires c κs =
     let a = c .before .before .before .before .before .before .before .before .before .before .before .before .before .before .before .args in
-    rw (static-object (a .names .now) (a .types .now) (a .values .now) (a .place) (c .before .before .before .before .before .if1 .left)) (c .before .before .before .before .before .before .before .before .before .before .before .before .before .before .before .pre .1)
+    rw (static-object (a .static-names .now) (a .static-types .now) (a .static-values .now) (a .place) (c .before .before .before .before .before .if1 .left)) (c .before .before .before .before .before .before .before .before .before .before .before .before .before .before .before .pre .1)
 
 same-length : tie.Need-same-length
 same-length c = same-targets (c .before .before .before .before .before .before .append .ensures)
@@ -22,12 +22,12 @@ same-length-3 c = same-weak (c .before .before .before .before .before .before .
 returns : tie.Need-returns
 returns c =
     let a = c .before .before .before .before .before .before .before .before .before .before .args in
-    rw (← static-skipped (a .names .now) (a .types .now) (a .values .now) (a .place) (c .if1 .taken)) appended-none
+    rw (← static-skipped (a .static-names .now) (a .static-types .now) (a .static-values .now) (a .place) (c .if1 .taken)) appended-none
 
 returns-2 : tie.Need-returns-2
 returns-2 c =
     let a = c .before .before .before .before .before .before .before .before .before .before .before .before .before .before .before .before .before .before .before .before .before .before .args in
-    rw (← static-object (a .names .now) (a .types .now) (a .values .now) (a .place) (c .before .before .before .before .before .before .before .before .before .before .before .before .if1 .left)) (c .before .before .before .before .before .before .append .ensures)
+    rw (← static-object (a .static-names .now) (a .static-types .now) (a .static-values .now) (a .place) (c .before .before .before .before .before .before .before .before .before .before .before .before .if1 .left)) (c .before .before .before .before .before .before .append .ensures)
 
 pub append-static-spec : {M : Type 1} → statement M
 append-static-spec =

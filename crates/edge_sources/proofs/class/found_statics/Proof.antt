@@ -10,7 +10,7 @@ use Rattle.edge_sources.proofs.class.found_statics.Tie as tie
 returns : tie.Need-returns
 returns c =
     let a = c .before .before .before .before .before .before .before .before .before .before .before .args in
-    rw (← statics-none (a .static-start .now) (a .static-end .now) (a .names .now) (a .types .now) (a .values .now) (a .mark) (c .if1 .taken)) appended-none
+    rw (← statics-none (a .static-starts .now) (a .static-ends .now) (a .static-names .now) (a .static-types .now) (a .static-values .now) (a .mark) (c .if1 .taken)) appended-none
 
 mul-index : tie.Need-mul-index
 mul-index c = omega (arith, c .before .before .before .before .before .before .before .before .before .before .before .pre .0 .start-in (omega arith))
@@ -37,7 +37,7 @@ statics-requires c κs =
     let z : 0 < a .mark = omega arith in
     let e = c .before .before .before .before .before .index .ensures in
     let g = c .before .before .before .index2 .ensures in
-    ((omega (arith, e, g, f .ordered z, f .names-in z), omega (arith, e, g, f .ordered z, f .types-in z), omega (arith, e, g, f .ordered z, f .values-in z)), rw (statics-some (a .static-start .now) (a .static-end .now) (a .names .now) (a .types .now) (a .values .now) (a .mark) (c .before .before .before .before .before .before .before .if1 .left) (c .before .before .before .before .before .index .ensures) (c .before .before .before .index2 .ensures)) (c .before .before .before .before .before .before .before .before .before .before .before .before .before .before .before .before .before .before .pre .1))
+    ((omega (arith, e, g, f .ordered z, f .names-in z), omega (arith, e, g, f .ordered z, f .types-in z), omega (arith, e, g, f .ordered z, f .values-in z)), rw (statics-some (a .static-starts .now) (a .static-ends .now) (a .static-names .now) (a .static-types .now) (a .static-values .now) (a .mark) (c .before .before .before .before .before .before .before .if1 .left) (c .before .before .before .before .before .index .ensures) (c .before .before .before .index2 .ensures)) (c .before .before .before .before .before .before .before .before .before .before .before .before .before .before .before .before .before .before .pre .1))
 
 same-length : tie.Need-same-length
 same-length c = same-targets (c .before .before .before .before .before .before .statics .ensures)
@@ -51,7 +51,7 @@ same-length-3 c = same-weak (c .before .before .before .before .before .before .
 returns-2 : tie.Need-returns-2
 returns-2 c =
     let a = c .before .before .before .before .before .before .before .before .before .before .before .before .before .before .before .before .before .before .before .before .before .before .before .before .before .args in
-    rw (← statics-some (a .static-start .now) (a .static-end .now) (a .names .now) (a .types .now) (a .values .now) (a .mark) (c .before .before .before .before .before .before .before .before .before .before .before .before .before .before .if1 .left) (c .before .before .before .before .before .before .before .before .before .before .before .before .index .ensures) (c .before .before .before .before .before .before .before .before .before .before .index2 .ensures)) (c .before .before .before .before .before .before .statics .ensures)
+    rw (← statics-some (a .static-starts .now) (a .static-ends .now) (a .static-names .now) (a .static-types .now) (a .static-values .now) (a .mark) (c .before .before .before .before .before .before .before .before .before .before .before .before .before .before .if1 .left) (c .before .before .before .before .before .before .before .before .before .before .before .before .index .ensures) (c .before .before .before .before .before .before .before .before .before .before .index2 .ensures)) (c .before .before .before .before .before .before .statics .ensures)
 
 pub found-statics-spec : {M : Type 1} → statement M
 found-statics-spec =

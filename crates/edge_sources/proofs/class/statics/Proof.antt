@@ -22,13 +22,13 @@ append-static-requires : tie.Need-append-static-requires Inv-loop μ-loop
 unfolding staticFrom
 append-static-requires c κs =
     let a = c .before .before .before .before .before .before .before .before .before .before .before .before .before .args in
-    (search needs, room-part (staticFrom (a .names .now) (a .types .now) (a .values .now) (a .first)) (c .before .before .before .before .loop .k) (c .before .before .before .before .loop .inv .1) (a .count) (c .before .before .before .loop-test .taken) (c .before .before .before .before .before .before .before .before .before .before .before .before .before .pre .1))
+    (search needs, room-part (staticFrom (a .static-names .now) (a .static-types .now) (a .static-values .now) (a .first)) (c .before .before .before .before .loop .k) (c .before .before .before .before .loop .inv .1) (a .count) (c .before .before .before .loop-test .taken) (c .before .before .before .before .before .before .before .before .before .before .before .before .before .pre .1))
 
 loop-again : tie.Need-loop-again Inv-loop μ-loop
 unfolding staticFrom
 loop-again c =
     let a = c .before .before .before .before .before .before .before .before .before .before .before .before .before .before .before .before .before .before .before .before .args in
-    (search needs, more-parts (staticFrom (a .names .now) (a .types .now) (a .values .now) (a .first)) (c .before .before .before .before .before .before .before .before .before .before .before .loop .k) (c .before .before .before .before .before .before .before .before .before .before .before .loop .inv .1) (c .before .before .before .before .before .before .append-static .ensures))
+    (search needs, more-parts (staticFrom (a .static-names .now) (a .static-types .now) (a .static-values .now) (a .first)) (c .before .before .before .before .before .before .before .before .before .before .before .loop .k) (c .before .before .before .before .before .before .before .before .before .before .before .loop .inv .1) (c .before .before .before .before .before .before .append-static .ensures))
 
 same-length : tie.Need-same-length Inv-loop μ-loop
 same-length c = same-targets (c .before .loop .inv .1)
@@ -42,7 +42,7 @@ same-length-3 c = same-weak (c .before .loop .inv .1)
 returns : tie.Need-returns Inv-loop μ-loop
 returns c =
     let a = c .before .before .before .before .before .before .before .before .before .before .args in
-    parts-end (staticFrom (a .names .now) (a .types .now) (a .values .now) (a .first)) (c .before .loop .k) (a .count) (omega arith) (c .before .loop .inv .1)
+    parts-end (staticFrom (a .static-names .now) (a .static-types .now) (a .static-values .now) (a .first)) (c .before .loop .k) (a .count) (omega arith) (c .before .loop .inv .1)
 
 pub statics-spec : {M : Type 1} → statement M
 statics-spec =

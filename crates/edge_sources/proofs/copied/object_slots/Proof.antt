@@ -10,7 +10,7 @@ use Rattle.edge_sources.proofs.copied.object_slots.Tie as tie
 returns : tie.Need-returns
 returns c =
     let a = c .before .before .before .before .before .before .before .before .before .before .before .before .before .before .args in
-    rw (← slots-none (idsOf (a .codes .now) (a .escape-places .now) (a .escape-ids .now) (a .base)) (a .start) (a .class-kinds .now) (a .slot-start .now) (a .slot-end .now) (a .slot-labels .now) (a .slot-weak .now) (a .policy) (a .kind) (a .class) (c .if1 .taken)) appended-none
+    rw (← slots-none (idsOf (a .codes .now) (a .escape-places .now) (a .escape-ids .now) (a .base)) (a .start) (a .class-kinds .now) (a .slot-starts .now) (a .slot-ends .now) (a .slot-labels .now) (a .slot-weak .now) (a .policy) (a .kind) (a .class) (c .if1 .taken)) appended-none
 
 shared-slice-read-keeps : tie.Need-shared-slice-read-keeps
 shared-slice-read-keeps c =
@@ -43,7 +43,7 @@ slots-requires c κs =
     let z = c .before .before .before .before .before .before .before .before .before .if1 .left in
     let e = c .before .before .before .before .before .index .ensures in
     let g = c .before .before .before .index2 .ensures in
-    (c .before .before .before .before .before .before .before .before .before .before .before .before .before .before .before .before .before .before .before .before .before .before .before .pre .0, ((omega (arith, e, g, f .ordered z, f .labels-in z), omega (arith, e, g, f .ordered z, f .weak-in z), omega (arith, e, g, f .held z)), rw (slots-some (idsOf (a .codes .now) (a .escape-places .now) (a .escape-ids .now) (a .base)) (a .start) (a .class-kinds .now) (a .slot-start .now) (a .slot-end .now) (a .slot-labels .now) (a .slot-weak .now) (a .policy) (a .kind) (a .class) (c .before .before .before .before .before .before .before .before .before .if1 .left) (c .before .before .before .before .before .before .before .keeps .ensures) (c .before .before .before .before .before .index .ensures) (c .before .before .before .index2 .ensures)) (c .before .before .before .before .before .before .before .before .before .before .before .before .before .before .before .before .before .before .before .before .before .before .before .pre .1 .1)))
+    (c .before .before .before .before .before .before .before .before .before .before .before .before .before .before .before .before .before .before .before .before .before .before .before .pre .0, ((omega (arith, e, g, f .ordered z, f .labels-in z), omega (arith, e, g, f .ordered z, f .weak-in z), omega (arith, e, g, f .held z)), rw (slots-some (idsOf (a .codes .now) (a .escape-places .now) (a .escape-ids .now) (a .base)) (a .start) (a .class-kinds .now) (a .slot-starts .now) (a .slot-ends .now) (a .slot-labels .now) (a .slot-weak .now) (a .policy) (a .kind) (a .class) (c .before .before .before .before .before .before .before .before .before .if1 .left) (c .before .before .before .before .before .before .before .keeps .ensures) (c .before .before .before .before .before .index .ensures) (c .before .before .before .index2 .ensures)) (c .before .before .before .before .before .before .before .before .before .before .before .before .before .before .before .before .before .before .before .before .before .before .before .pre .1 .1)))
 
 same-length : tie.Need-same-length
 same-length c = same-targets (c .before .before .before .before .before .before .slots .ensures)
@@ -57,7 +57,7 @@ same-length-3 c = same-weak (c .before .before .before .before .before .before .
 returns-2 : tie.Need-returns-2
 returns-2 c =
     let a = c .before .before .before .before .before .before .before .before .before .before .before .before .before .before .before .before .before .before .before .before .before .before .before .before .before .before .before .before .before .before .args in
-    rw (← slots-some (idsOf (a .codes .now) (a .escape-places .now) (a .escape-ids .now) (a .base)) (a .start) (a .class-kinds .now) (a .slot-start .now) (a .slot-end .now) (a .slot-labels .now) (a .slot-weak .now) (a .policy) (a .kind) (a .class) (c .before .before .before .before .before .before .before .before .before .before .before .before .before .before .before .before .if1 .left) (c .before .before .before .before .before .before .before .before .before .before .before .before .before .before .keeps .ensures) (c .before .before .before .before .before .before .before .before .before .before .before .before .index .ensures) (c .before .before .before .before .before .before .before .before .before .before .index2 .ensures)) (c .before .before .before .before .before .before .slots .ensures)
+    rw (← slots-some (idsOf (a .codes .now) (a .escape-places .now) (a .escape-ids .now) (a .base)) (a .start) (a .class-kinds .now) (a .slot-starts .now) (a .slot-ends .now) (a .slot-labels .now) (a .slot-weak .now) (a .policy) (a .kind) (a .class) (c .before .before .before .before .before .before .before .before .before .before .before .before .before .before .before .before .if1 .left) (c .before .before .before .before .before .before .before .before .before .before .before .before .before .before .keeps .ensures) (c .before .before .before .before .before .before .before .before .before .before .before .before .index .ensures) (c .before .before .before .before .before .before .before .before .before .before .index2 .ensures)) (c .before .before .before .before .before .before .slots .ensures)
 
 pub object-slots-spec : {M : Type 1} → statement M
 object-slots-spec =

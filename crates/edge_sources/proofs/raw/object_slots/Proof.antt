@@ -9,7 +9,7 @@ use Rattle.edge_sources.proofs.raw.object_slots.Tie as tie
 returns : tie.Need-returns
 returns c =
     let a = c .before .before .before .before .before .before .before .before .before .before .before .before .before .args in
-    rw (← raw-none (a .bytes .now) (a .size) (a .start) (a .body) (a .class-kinds .now) (a .slot-start .now) (a .slot-end .now) (a .slot-offsets .now) (a .slot-labels .now) (a .slot-weak .now) (a .policy) (a .kind) (a .class) (c .if1 .taken)) appended-none
+    rw (← raw-none (a .bytes .now) (a .size) (a .start) (a .body) (a .class-kinds .now) (a .slot-starts .now) (a .slot-ends .now) (a .slot-offsets .now) (a .slot-labels .now) (a .slot-weak .now) (a .policy) (a .kind) (a .class) (c .if1 .taken)) appended-none
 
 shared-slice-read-keeps : tie.Need-shared-slice-read-keeps
 shared-slice-read-keeps c =
@@ -42,7 +42,7 @@ slots-requires c κs =
     let z = c .before .before .before .before .before .before .before .before .before .if1 .left in
     let e = c .before .before .before .before .before .index .ensures in
     let g = c .before .before .before .index2 .ensures in
-    ((omega (arith, e, g, f .ordered z, f .labels-in z, c .before .before .before .before .before .before .before .before .before .before .before .before .before .before .before .before .before .before .before .before .before .before .pre .1 .0), omega (arith, e, g, f .ordered z, f .labels-in z), omega (arith, e, g, f .ordered z, f .weak-in z)), (c .before .before .before .before .before .before .before .before .before .before .before .before .before .before .before .before .before .before .before .before .before .before .pre .1 .1 .0 z, rw (raw-some (a .bytes .now) (a .size) (a .start) (a .body) (a .class-kinds .now) (a .slot-start .now) (a .slot-end .now) (a .slot-offsets .now) (a .slot-labels .now) (a .slot-weak .now) (a .policy) (a .kind) (a .class) (c .before .before .before .before .before .before .before .before .before .if1 .left) (c .before .before .before .before .before .before .before .keeps .ensures) (c .before .before .before .before .before .index .ensures) (c .before .before .before .index2 .ensures)) (c .before .before .before .before .before .before .before .before .before .before .before .before .before .before .before .before .before .before .before .before .before .before .pre .1 .1 .1)))
+    ((omega (arith, e, g, f .ordered z, f .labels-in z, c .before .before .before .before .before .before .before .before .before .before .before .before .before .before .before .before .before .before .before .before .before .before .pre .1 .0), omega (arith, e, g, f .ordered z, f .labels-in z), omega (arith, e, g, f .ordered z, f .weak-in z)), (c .before .before .before .before .before .before .before .before .before .before .before .before .before .before .before .before .before .before .before .before .before .before .pre .1 .1 .0 z, rw (raw-some (a .bytes .now) (a .size) (a .start) (a .body) (a .class-kinds .now) (a .slot-starts .now) (a .slot-ends .now) (a .slot-offsets .now) (a .slot-labels .now) (a .slot-weak .now) (a .policy) (a .kind) (a .class) (c .before .before .before .before .before .before .before .before .before .if1 .left) (c .before .before .before .before .before .before .before .keeps .ensures) (c .before .before .before .before .before .index .ensures) (c .before .before .before .index2 .ensures)) (c .before .before .before .before .before .before .before .before .before .before .before .before .before .before .before .before .before .before .before .before .before .before .pre .1 .1 .1)))
 
 same-length : tie.Need-same-length
 same-length c = same-targets (c .before .before .before .before .before .before .slots .ensures)
@@ -56,7 +56,7 @@ same-length-3 c = same-weak (c .before .before .before .before .before .before .
 returns-2 : tie.Need-returns-2
 returns-2 c =
     let a = c .before .before .before .before .before .before .before .before .before .before .before .before .before .before .before .before .before .before .before .before .before .before .before .before .before .before .before .before .before .args in
-    rw (← raw-some (a .bytes .now) (a .size) (a .start) (a .body) (a .class-kinds .now) (a .slot-start .now) (a .slot-end .now) (a .slot-offsets .now) (a .slot-labels .now) (a .slot-weak .now) (a .policy) (a .kind) (a .class) (c .before .before .before .before .before .before .before .before .before .before .before .before .before .before .before .before .if1 .left) (c .before .before .before .before .before .before .before .before .before .before .before .before .before .before .keeps .ensures) (c .before .before .before .before .before .before .before .before .before .before .before .before .index .ensures) (c .before .before .before .before .before .before .before .before .before .before .index2 .ensures)) (c .before .before .before .before .before .before .slots .ensures)
+    rw (← raw-some (a .bytes .now) (a .size) (a .start) (a .body) (a .class-kinds .now) (a .slot-starts .now) (a .slot-ends .now) (a .slot-offsets .now) (a .slot-labels .now) (a .slot-weak .now) (a .policy) (a .kind) (a .class) (c .before .before .before .before .before .before .before .before .before .before .before .before .before .before .before .before .if1 .left) (c .before .before .before .before .before .before .before .before .before .before .before .before .before .before .keeps .ensures) (c .before .before .before .before .before .before .before .before .before .before .before .before .index .ensures) (c .before .before .before .before .before .before .before .before .before .before .index2 .ensures)) (c .before .before .before .before .before .before .slots .ensures)
 
 pub object-slots-spec : {M : Type 1} → statement M
 object-slots-spec =

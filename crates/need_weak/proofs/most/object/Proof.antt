@@ -7,19 +7,19 @@ use Rattle.need_weak.proofs.most.object.Statement.{statement}
 use Rattle.need_weak.proofs.most.object.Tie as tie
 
 returns : tie.Need-returns
-returns c = let a = c .before .before .before .before .before .args in record { is = most-none (a .class-kinds .now) (a .slot-start .now) (a .slot-end .now) (a .slot-weak .now) (a .policy) (a .kind) (a .class) (c .if1 .taken); few = omega arith }
+returns c = let a = c .before .before .before .before .before .args in record { is = most-none (a .class-kinds .now) (a .slot-starts .now) (a .slot-ends .now) (a .slot-weak .now) (a .policy) (a .kind) (a .class) (c .if1 .taken); few = omega arith }
 
 shared-slice-read-is-plain : tie.Need-shared-slice-read-is-plain
 shared-slice-read-is-plain c = omega (arith, c .before .before .before .before .before .before .pre .0 .kind-in (c .before .if1 .left))
 
 returns-2 : tie.Need-returns-2
-returns-2 c = let a = c .before .before .before .before .before .before .before .before .args in record { is = most-plain (a .class-kinds .now) (a .slot-start .now) (a .slot-end .now) (a .slot-weak .now) (a .policy) (a .kind) (a .class) (c .before .before .before .before .before .before .before .before .pre .1) (c .before .before .before .before .before .before .before .before .pre .0 .kind-in (c .before .before .before .if1 .left)) (c .before .is-plain .ensures) (c .if2 .taken); few = omega arith }
+returns-2 c = let a = c .before .before .before .before .before .before .before .before .args in record { is = most-plain (a .class-kinds .now) (a .slot-starts .now) (a .slot-ends .now) (a .slot-weak .now) (a .policy) (a .kind) (a .class) (c .before .before .before .before .before .before .before .before .pre .1) (c .before .before .before .before .before .before .before .before .pre .0 .kind-in (c .before .before .before .if1 .left)) (c .before .is-plain .ensures) (c .if2 .taken); few = omega arith }
 
 shared-slice-read-keeps : tie.Need-shared-slice-read-keeps
 shared-slice-read-keeps c = omega (arith, c .before .before .before .before .before .before .before .before .before .pre .0 .kind-in (c .before .before .before .before .if1 .left))
 
 returns-3 : tie.Need-returns-3
-returns-3 c = let a = c .before .before .before .before .before .before .before .before .before .before .before .args in record { is = most-kept (a .class-kinds .now) (a .slot-start .now) (a .slot-end .now) (a .slot-weak .now) (a .policy) (a .kind) (a .class) (c .before .keeps .ensures) (c .if3 .taken); few = omega arith }
+returns-3 c = let a = c .before .before .before .before .before .before .before .before .before .before .before .args in record { is = most-kept (a .class-kinds .now) (a .slot-starts .now) (a .slot-ends .now) (a .slot-weak .now) (a .policy) (a .kind) (a .class) (c .before .keeps .ensures) (c .if3 .taken); few = omega arith }
 
 mul-index : tie.Need-mul-index
 mul-index c = omega (arith, c .before .before .before .before .before .before .before .before .before .before .before .pre .0 .start-in (c .before .before .before .before .before .before .if1 .left))
@@ -48,7 +48,7 @@ returns-4 c =
     let f = c .before .before .before .before .before .before .before .before .before .before .before .before .before .before .before .before .pre .0 in
     let z = c .before .before .before .before .before .before .before .before .before .before .before .if1 .left in
     record {
-      is = c .slots .ensures .is ∙ most-some (a .class-kinds .now) (a .slot-start .now) (a .slot-end .now) (a .slot-weak .now) (a .policy) (a .kind) (a .class) z (c .before .before .before .before .before .before .keeps .ensures) (c .before .before .before .before .before .if3 .left) (c .before .before .before .index .ensures) (c .before .index2 .ensures);
+      is = c .slots .ensures .is ∙ most-some (a .class-kinds .now) (a .slot-starts .now) (a .slot-ends .now) (a .slot-weak .now) (a .policy) (a .kind) (a .class) z (c .before .before .before .before .before .before .keeps .ensures) (c .before .before .before .before .before .if3 .left) (c .before .before .before .index .ensures) (c .before .index2 .ensures);
       few = omega (arith, c .slots .ensures .few, c .before .before .before .index .ensures, c .before .index2 .ensures, f .ordered z, f .weak-in z);
     }
 

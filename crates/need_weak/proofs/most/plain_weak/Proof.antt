@@ -24,18 +24,18 @@ loop-holds c = (search needs, none-yet _)
 returns : tie.Need-returns Inv-loop μ-loop
 returns c =
     let a = c .before .before .before .before .before .before .before .before .args in
-    sym (some-any (plainWeak (a .class-kinds .now) (a .slot-start .now) (a .slot-end .now) (a .slot-weak .now)) (length (a .class-kinds .now)) (c .before .before .before .loop .class) (c .before .before .loop-test .taken) (sym (c .before .class-weak .ensures) ∙ c .if1 .taken))
+    sym (some-any (plainWeak (a .class-kinds .now) (a .slot-starts .now) (a .slot-ends .now) (a .slot-weak .now)) (length (a .class-kinds .now)) (c .before .before .before .loop .class) (c .before .before .loop-test .taken) (sym (c .before .class-weak .ensures) ∙ c .if1 .taken))
 
 loop-again : tie.Need-loop-again Inv-loop μ-loop
 loop-again c =
     let a = c .before .before .before .before .before .before .before .before .args in
-    (search needs, none-more (plainWeak (a .class-kinds .now) (a .slot-start .now) (a .slot-end .now) (a .slot-weak .now)) (c .before .before .before .loop .class) (c .before .before .before .loop .inv .1) (sym (c .before .class-weak .ensures) ∙ c .if1 .left))
+    (search needs, none-more (plainWeak (a .class-kinds .now) (a .slot-starts .now) (a .slot-ends .now) (a .slot-weak .now)) (c .before .before .before .loop .class) (c .before .before .before .loop .inv .1) (sym (c .before .class-weak .ensures) ∙ c .if1 .left))
 
 returns-2 : tie.Need-returns-2 Inv-loop μ-loop
 returns-2 c =
     let a = c .before .before .before .before .before .before .args in
     let e : c .before .loop .class ≡ length (a .class-kinds .now) = omega arith in
-    sym (ap (any (plainWeak (a .class-kinds .now) (a .slot-start .now) (a .slot-end .now) (a .slot-weak .now))) (sym e) ∙ c .before .loop .inv .1)
+    sym (ap (any (plainWeak (a .class-kinds .now) (a .slot-starts .now) (a .slot-ends .now) (a .slot-weak .now))) (sym e) ∙ c .before .loop .inv .1)
 
 pub plain-weak-spec : {M : Type 1} → statement M
 plain-weak-spec =

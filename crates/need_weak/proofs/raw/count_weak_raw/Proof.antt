@@ -53,13 +53,13 @@ loop-again : tie.Need-loop-again Inv-loop μ-loop
 loop-again c =
     let a = c .before .before .before .before .before .before .before .before .before .before .before .before .before .before .before .before .before .before .before .before .args in
     let w = c .before .before .before .before .before .before .before .before .loop .inv in
-    (search needs, omega (arith, w .1, c .object .ensures .few, c .before .before .before .before .before .before .before .before .before .before .before .before .before .before .before .before .before .before .before .before .pre .0 .2), raw-more (a .ids .now) (a .kinds .now) (a .classes .now) (a .starts .now) (a .bodies .now) (a .bytes .now) (a .size) (a .class-kinds .now) (a .slot-start .now) (a .slot-end .now) (a .slot-offsets .now) (a .slot-weak .now) (a .policy) (c .before .before .before .before .before .before .before .before .loop .o) (w .2) (c .before .before .before .before .index .ensures) (c .before .index2 .ensures) (c .object .ensures .is))
+    (search needs, omega (arith, w .1, c .object .ensures .few, c .before .before .before .before .before .before .before .before .before .before .before .before .before .before .before .before .before .before .before .before .pre .0 .2), raw-more (a .ids .now) (a .kinds .now) (a .classes .now) (a .starts .now) (a .bodies .now) (a .bytes .now) (a .size) (a .class-kinds .now) (a .slot-starts .now) (a .slot-ends .now) (a .slot-offsets .now) (a .slot-weak .now) (a .policy) (c .before .before .before .before .before .before .before .before .loop .o) (w .2) (c .before .before .before .before .index .ensures) (c .before .index2 .ensures) (c .object .ensures .is))
 
 returns : tie.Need-returns Inv-loop μ-loop
 returns c =
     let a = c .before .before .before .before .before .before .before .before .before .before .before .before .before .args in
     let e : c .before .loop .o ≡ length (a .ids .now) = omega arith in
-    c .before .loop .inv .2 ∙ ap (rawTotal (a .ids .now) (a .kinds .now) (a .classes .now) (a .starts .now) (a .bodies .now) (a .bytes .now) (a .size) (a .class-kinds .now) (a .slot-start .now) (a .slot-end .now) (a .slot-offsets .now) (a .slot-weak .now) (a .policy)) e
+    c .before .loop .inv .2 ∙ ap (rawTotal (a .ids .now) (a .kinds .now) (a .classes .now) (a .starts .now) (a .bodies .now) (a .bytes .now) (a .size) (a .class-kinds .now) (a .slot-starts .now) (a .slot-ends .now) (a .slot-offsets .now) (a .slot-weak .now) (a .policy)) e
 
 pub count-weak-raw-spec : {M : Type 1} → statement M
 count-weak-raw-spec =

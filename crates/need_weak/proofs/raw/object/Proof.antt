@@ -7,13 +7,13 @@ use Rattle.need_weak.proofs.raw.object.Statement.{statement}
 use Rattle.need_weak.proofs.raw.object.Tie as tie
 
 returns : tie.Need-returns
-returns c = let a = c .before .before .before .before .before .before .before .before .args in record { is = raw-no-pairs (a .ids .now) (a .bytes .now) (a .size) (a .start) (a .body) (a .class-kinds .now) (a .slot-start .now) (a .slot-end .now) (a .slot-offsets .now) (a .slot-weak .now) (a .policy) (a .kind) (a .class) (c .if1 .taken); few = omega arith }
+returns c = let a = c .before .before .before .before .before .before .before .before .args in record { is = raw-no-pairs (a .ids .now) (a .bytes .now) (a .size) (a .start) (a .body) (a .class-kinds .now) (a .slot-starts .now) (a .slot-ends .now) (a .slot-offsets .now) (a .slot-weak .now) (a .policy) (a .kind) (a .class) (c .if1 .taken); few = omega arith }
 
 shared-slice-read-keeps : tie.Need-shared-slice-read-keeps
 shared-slice-read-keeps c = omega (arith, c .before .before .before .before .before .before .before .before .before .pre .0 .1 .kind-in (c .before .if1 .left))
 
 returns-2 : tie.Need-returns-2
-returns-2 c = let a = c .before .before .before .before .before .before .before .before .before .before .before .args in record { is = raw-kept (a .ids .now) (a .bytes .now) (a .size) (a .start) (a .body) (a .class-kinds .now) (a .slot-start .now) (a .slot-end .now) (a .slot-offsets .now) (a .slot-weak .now) (a .policy) (a .kind) (a .class) (c .before .keeps .ensures) (c .if2 .taken); few = omega arith }
+returns-2 c = let a = c .before .before .before .before .before .before .before .before .before .before .before .args in record { is = raw-kept (a .ids .now) (a .bytes .now) (a .size) (a .start) (a .body) (a .class-kinds .now) (a .slot-starts .now) (a .slot-ends .now) (a .slot-offsets .now) (a .slot-weak .now) (a .policy) (a .kind) (a .class) (c .before .keeps .ensures) (c .if2 .taken); few = omega arith }
 
 mul-index : tie.Need-mul-index
 mul-index c = omega (arith, c .before .before .before .before .before .before .before .before .before .before .before .pre .0 .1 .start-in (c .before .before .before .if1 .left))
@@ -42,7 +42,7 @@ returns-3 c =
     let f = c .before .before .before .before .before .before .before .before .before .before .before .before .before .before .before .before .pre .0 .1 in
     let z = c .before .before .before .before .before .before .before .before .if1 .left in
     record {
-      is = c .slots .ensures .is ∙ raw-pairs (a .ids .now) (a .bytes .now) (a .size) (a .start) (a .body) (a .class-kinds .now) (a .slot-start .now) (a .slot-end .now) (a .slot-offsets .now) (a .slot-weak .now) (a .policy) (a .kind) (a .class) z (c .before .before .before .before .before .before .keeps .ensures) (c .before .before .before .before .before .if2 .left) (c .before .before .before .index .ensures) (c .before .index2 .ensures);
+      is = c .slots .ensures .is ∙ raw-pairs (a .ids .now) (a .bytes .now) (a .size) (a .start) (a .body) (a .class-kinds .now) (a .slot-starts .now) (a .slot-ends .now) (a .slot-offsets .now) (a .slot-weak .now) (a .policy) (a .kind) (a .class) z (c .before .before .before .before .before .before .keeps .ensures) (c .before .before .before .before .before .if2 .left) (c .before .before .before .index .ensures) (c .before .index2 .ensures);
       few = omega (arith, c .slots .ensures .few, c .before .before .before .index .ensures, c .before .index2 .ensures, f .ordered z, f .weak-in z);
     }
 
