@@ -11,7 +11,7 @@ use Rattle.columns.specs.Ranks.{rank}
 use Rattle.rules.specs.Types.{LOADER, ARRAY-ELEMENT, isElement}
 use Rattle.rules.specs.Input.{Input, Schema, objectCount}
 use Rattle.rules.specs.Edges.{Parts, Edge, edgesOf, weakTargets, offset, graph}
-use Rattle.rules.specs.Labels.{Coded, fieldCode, codesFor, coded, coarseLabel, named}
+use Rattle.rules.specs.Labels.{Coded, fieldCode, codesFor, coded, coarseLabel, named, own}
 use Rattle.rules.specs.Needs.{objectsOf, fieldsFor, labelColumns}
 use Rattle.rules.specs.Parts.{degree}
 use Rattle.rules.specs.Questions.{Columns, columnsOf, edgesAt, weakIn, coarse, asked, plainly, labelReads, readsBack, objectsIn, offsetAt, edgesIn, edgesRead, coarseIn, exactIn, labelIn, exactOf, labelOf, Promised}
@@ -21,7 +21,7 @@ use Rattle.rules.proofs.Asked.{offset-back, objects-same, span-plain, count-pla
 use Rattle.rules.proofs.Codes.{own-at, code-at, coarse-code, read-labels, fields-few}
 use Rattle.rules.proofs.Finished.{all-read, edges-read, span-asked, count-asked, coarse-asked, exact-asked, label-asked, field-asked, weak-asked, referent-asked, never-12, never-12-edge}
 use Rattle.rules.proofs.Laid.{build-meets, objects-are}
-use Rattle.rules.proofs.Meets.{Meets, own}
+use Rattle.rules.proofs.Meets.{Meets}
 use Rattle.rules.proofs.Passes.{edges-few}
 use Rattle.ask_graph.specs.Reading.{countOf, weakOf, partOf}
 use Rattle.ask_graph.specs.Labelled.{spanIn, edgeAsked, coarseAt, Labelled}
@@ -160,7 +160,7 @@ module _ (x : Input) (h : Passed x) (o : ℕ) where
   weak-built = built (weak-promised c o) (weak-asked x h o) (never-12 n o _)
 
   pub one-code : o < objectsIn c → readsBack c o ≡ true → OneCode (c .labels) (offsetAt c o) (edgesIn c o)
-  one-code = coded-so (x .schema) (graph x) (build-meets x h) (omega (arith, names-few x h)) labels-few o
+  one-code = coded-so (x .schema) (graph x) (build-meets x h) (omega (arith, names-few x (h .sound))) labels-few o
 
   pub field-built : (table : List ℕ) (l : ℕ) → fieldFound (strong c) table o l ≡ plainly n o (0 ∷ fieldIn (edgesOf x o) l)
   unfolding fieldFound

@@ -1,16 +1,15 @@
 -- The three demands, of all that a build call left: b is what its contract says of the answer and the columns. Assumes nothing.
 use Prim.Native.Nat.{ℕ, _+_, _<_}
-use mathlib.Core.Path.{_≡_, refl, sym, ap, _∙_}
+use mathlib.Core.Path.{_≡_, sym, ap, _∙_}
 use mathlib.Core.Bool.{true, false}
-use mathlib.Core.List.{List, [], _∷_}
+use mathlib.Core.List.{List, []}
 use lib.Dec.{eqb}
 use lib.ListN.{length}
 use Rattle.columns.specs.Lists.{_!_, sum, one, total}
-use Rattle.columns.specs.Columns.{zeros, accepts}
+use Rattle.columns.specs.Columns.{accepts}
 use Rattle.rules.specs.Input.{Input, objectCount}
-use Rattle.rules.specs.Edges.{graph, edgesOf}
+use Rattle.rules.specs.Edges.{edgesOf}
 use Rattle.rules.specs.Demand.{held, lost}
-use Rattle.rules.specs.Account.{noAccount}
 use Rattle.rules.specs.Needs.{Rooms}
 use Rattle.rules.specs.Verdict.{counts, buildSays}
 use Rattle.rules.specs.Built.{BuildLeft, buildLeft, usedColumns}
@@ -18,7 +17,7 @@ use Rattle.rules.specs.Questions.{readsBack, weakReads, edgesRead}
 use Rattle.rules.proofs.Acceptance.{build-passed, build-says}
 use Rattle.rules.proofs.Demand.{demand-total, dangling-lost}
 use Rattle.rules.proofs.Finished.{all-read, all-weak-read, edges-read, demand-read}
-use Rattle.rules.proofs.Used.{used-columns, zeroCoded, refused-left}
+use Rattle.rules.proofs.Used.{used-columns, refused-left, zeroBuild}
 
 module _ (x : Input) (r : Rooms) (b : BuildLeft) (left : b ≡ buildLeft x r) where
   says-are : b .says ≡ buildSays x r
@@ -26,17 +25,7 @@ module _ (x : Input) (r : Rooms) (b : BuildLeft) (left : b ≡ buildLeft x r) wh
   says-are = ap (λ (z : BuildLeft). z .says) left
 
   -- Demand 1: "a refused build leaves all lent output and work columns zero."
-  pub refused-zero : accepts (b .says) ≡ false → b ≡ record {
-    says = buildSays x r;
-    targets = zeros (r .targets);
-    labels = zeros (r .labels);
-    weakFrom = zeros (r .weakFrom);
-    weakTo = zeros (r .weakTo);
-    roots = zeros (r .roots);
-    working = zeros (r .working);
-    coded = zeroCoded (r .coded);
-    account = noAccount;
-  }
+  pub refused-zero : accepts (b .says) ≡ false → b ≡ zeroBuild x r
   refused-zero h = left ∙ refused-left x r (ap accepts (sym says-are) ∙ h)
 
   module _ (ok : accepts (b .says) ≡ true) where

@@ -4,26 +4,26 @@ use native.Mathlib.Numerals.{add-one}
 use native.Mathlib.Omega.{arith}
 use mathlib.Core.Path.{_≡_, refl, sym, ap, _∙_}
 use mathlib.Core.Bool.{Bool, true, false, cond, true≢false}
-use mathlib.Core.List.{List, [], _∷_}
+use mathlib.Core.List.{List, []}
 use lib.ListN.{length, take, length-map}
 use Rattle.columns.specs.Columns.{accepts}
 use Rattle.columns.proofs.Lists.{tab-length}
-use Rattle.columns.proofs.Tests.{none-of}
 use Rattle.rules.specs.declared.Built.{Built}
 use Rattle.rules.specs.Types.{builtSays}
 use Rattle.rules.specs.Input.{Input, Schema, objectCount, classCount}
 use Rattle.rules.specs.Edges.{Parts, graph, offset, edges}
-use Rattle.rules.specs.Needs.{Lent, Rooms, shortOfParts}
-use Rattle.rules.specs.Verdict.{firstOf, at, counts, badLengths, badLimit, badDumped}
+use Rattle.rules.specs.Needs.{Lent, shortOfParts}
+use Rattle.rules.specs.Verdict.{firstOf, at, counts, plainCounts}
 use Rattle.rules.specs.Built.{CodedLeft, codedLeft, buildLeft}
-use Rattle.rules.proofs.Acceptance.{Passed}
+use Rattle.rules.proofs.Acceptance.{Passed, limits-good, class-good}
 use Rattle.rules.proofs.Laid.{build-meets, objects-are}
 use Rattle.rules.proofs.Passes.{edges-few}
 use Rattle.rules.proofs.Used.{refused-coded}
+use Rattle.rules.proofs.Even.{schema-lengths}
 use Rattle.code_stages.specs.Stages.{handOn, Ready}
 use Rattle.code_columns.proofs.Readying.{ready-parts}
-use Rattle.code_columns.specs.Finished.{Coding, Hands, Finished, namingOf, plainCounts}
-use Rattle.build_rooms.specs.Stages.{kept, edgeSays, early, plain, leftOf, roomsOf, Laid}
+use Rattle.code_columns.specs.Finished.{Finished, namingOf}
+use Rattle.build_rooms.specs.Stages.{kept, early, leftOf, roomsOf}
 use Rattle.build_rooms.proofs.Compose.{built-left, edge-accepts, edge-passed}
 use Rattle.build_edges.specs.Laying.{Laying}
 use Rattle.build.specs.Build.{offsetsUsed, labelsUsed, Rest}
@@ -38,10 +38,9 @@ labels-even x = length-map (edges x) _ ∙ sym (length-map (edges x) _)
 
 -- What the checks found of the input is what coding asks of its graph.
 pub graph-ready : (x : Input) → Passed x → Ready (namingOf (x .schema)) (classCount (x .schema)) (x .schema .names) (graph x .offsets) (graph x .labels)
-unfolding badLengths badLimit badDumped
 graph-ready x h =
     let law = build-meets x h in
-    ready-parts (x .schema) (graph x) (none-of _ (h .lengths) 1) (rw (objects-are x) (none-of _ (h .limits) 0)) (λ c l. none-of _ (h .class c l) 0)
+    ready-parts (x .schema) (graph x) (schema-lengths x (h .sound .lengths)) (rw (objects-are x) (limits-good x (h .sound))) (class-good x (h .sound))
     (omega (arith, edges-few x h, law .counted)) law
 
 -- any plain columns with these offsets and labels: of a refused build nothing more is asked

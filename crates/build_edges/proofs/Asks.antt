@@ -1,23 +1,20 @@
 -- What the needs ask of an input that the checks accept. Assumes nothing.
-use Prim.Native.Nat.{ℕ, suc, _+_, _^_, _≤_, _<_}
+use Prim.Native.Nat.{ℕ, _+_, _^_, _≤_, _<_}
 use native.Mathlib.Omega.{arith}
-use mathlib.Core.Path.{_≡_, refl, sym, ap, _∙_, subst}
+use mathlib.Core.Path.{_≡_, refl, sym, ap, subst}
 use mathlib.Core.Bool.{Bool, true, false, cond}
 use mathlib.Core.List.{List}
 use lib.Dec.{ltb}
 use lib.ListN.{length, length-replicate}
-use borrow.Author.Tests.{ltb-false}
-use Rattle.columns.specs.Lists.{_!_, tab}
+use Rattle.columns.specs.Lists.{tab}
 use Rattle.columns.specs.Columns.{zeros, accepts}
 use Rattle.columns.proofs.Lists.{tab-length}
-use Rattle.columns.proofs.Tests.{none-of}
-use Rattle.rules.specs.declared.Checked.{Checked}
-use Rattle.rules.specs.Types.{checkedSays}
 use Rattle.rules.specs.Input.{Input, Copied, Raw, Route, Route.copied, Route.raw, objectCount, classCount}
-use Rattle.rules.specs.Verdict.{checkSays, badLimit, overLimit}
-use Rattle.rules.proofs.Acceptance.{Passed, check-passed, objects-few, ids-rise, root-in, objects-even, slots-even, copied-even, raw-even}
-use Rattle.check_tables.specs.Found.{marks, marksIf, markTo, markAt}
-use Rattle.check_input.specs.Flat.{Judged, marksLeft}
+use Rattle.rules.specs.Verdict.{checkSays}
+use Rattle.rules.proofs.Acceptance.{check-passed, objects-few, ids-rise, root-in, Sound, classes-few, slot-rows-few}
+use Rattle.rules.proofs.Even.{objects-even, copied-even, raw-even, input-even}
+use Rattle.check_tables.specs.Found.{marks, marksIf, markAt}
+use Rattle.check_input.specs.Flat.{marksLeft}
 use Rattle.need_roots.specs.Roots.{Below, ClassMarks}
 use Rattle.need_weak.specs.Pairs.{ObjectsIn}
 use Rattle.need_weak.proofs.Theorems.{slots-weak}
@@ -26,14 +23,8 @@ use Rattle.edge_pass.proofs.Accepted.{CodesFit, object-in}
 use Rattle.build_edges.specs.Laying.{CopiedAsked, RawAsked}
 use Rattle.build_edges.proofs.Half.{mark-told, mark-is, mark-most}
 
-slots-all : (x : Input) → Passed x → length (x .schema .slots .weak) ≤ 268435456
-unfolding badLimit overLimit
-slots-all x h =
-    omega (arith, slots-even x h .1, ltb-false 268435456 (length (x .schema .slots .offsets)) (none-of _ (none-of _ (none-of _ (h .limits) 0) 2) 0))
-
-classes-few : (x : Input) → Passed x → classCount (x .schema) ≤ 67108864
-unfolding badLimit overLimit
-classes-few x h = ltb-false _ _ (none-of _ (none-of _ (none-of _ (h .limits) 0) 0) 1)
+slots-all : (x : Input) → Sound x → length (x .schema .slots .weak) ≤ 268435456
+slots-all x h = omega (arith, input-even x (h .lengths) .slot-weak, slot-rows-few x h)
 
 marks-long : (x : Input) (m : ℕ) → length (marksLeft x m) ≡ m
 unfolding marksLeft marksIf marks
@@ -45,15 +36,15 @@ marks-long x m = go (accepts (checkSays x)) (ltb (objectCount x) m)
     go false b = length-replicate m 0
 
 module _ (x : Input) (ok : accepts (checkSays x) ≡ true) where
-  abbrev h : Passed x
-  h = check-passed x ok
+  abbrev h : Sound x
+  h = check-passed x ok .sound
 
   objects-in : (starts : List ℕ) → length starts ≡ objectCount x → ObjectsIn (x .objects .ids) (x .objects .kinds) (x .objects .classes) starts
   objects-in starts e = record {
     rising = ids-rise x h;
     few = objects-few x h;
-    kind = omega (arith, objects-even x h .0);
-    class = omega (arith, objects-even x h .1);
+    kind = omega (arith, objects-even x (h .lengths) .0);
+    class = omega (arith, objects-even x (h .lengths) .1);
     start = omega arith;
   }
 
@@ -64,13 +55,13 @@ module _ (x : Input) (ok : accepts (checkSays x) ≡ true) where
       let w = marksLeft x m in
       let long : objectCount x < m = omega arith in
       let wide : length w ≡ m = marks-long x m in
-      object-in x h w (omega (arith, wide)) f o l (mark-told x m long ok refl o l) .part
+      object-in x (check-passed x ok) w (omega (arith, wide)) f o l (mark-told x m long ok refl o l) .part
 
   pub copied-asked : (c : Copied) → x .route ≡ copied c → length (c .ids .codes) < 2 ^ 64
       → CopiedAsked (x .objects .ids) (x .objects .kinds) (x .objects .classes) (c .starts) (x .schema .classes .kinds) (x .schema .classes .slotStart) (x .schema .classes .slotEnd) (length (x .schema .slots .weak))
   copied-asked c e f = record {
-    objects = objects-in (c .starts) (copied-even x h c e .1);
-    even = omega (arith, objects-even x h .0);
+    objects = objects-in (c .starts) (copied-even x (h .lengths) c e .1);
+    even = omega (arith, objects-even x (h .lengths) .0);
     few = slots-all x h;
     slots = λ o l. slots-weak (subst (λ (t : Route). PartIn x t o) e (part-of (subst CodesFit (sym e) f) o l) .slots);
   }
@@ -80,9 +71,9 @@ module _ (x : Input) (ok : accepts (checkSays x) ≡ true) where
   raw-asked r e =
       let part : (o : ℕ) → o < objectCount x → PartIn x (raw r) o = λ o l. subst (λ (t : Route). PartIn x t o) e (part-of (subst CodesFit (sym e) tt) o l) in
       record {
-        objects = objects-in (r .starts) (raw-even x h r e .0);
-        even = omega (arith, objects-even x h .0);
-        bodies-long = omega (arith, raw-even x h r e .1);
+        objects = objects-in (r .starts) (raw-even x (h .lengths) r e .0);
+        even = omega (arith, objects-even x (h .lengths) .0);
+        bodies-long = omega (arith, raw-even x (h .lengths) r e .1);
         few = slots-all x h;
         slots = λ o l. rw (part o l .offsets) (part o l .slots);
         body = λ o l k. part o l .fields k;
@@ -90,4 +81,4 @@ module _ (x : Input) (ok : accepts (checkSays x) ≡ true) where
 
   pub roots-asked : (w : List ℕ) (m : ℕ) → w ≡ marksLeft x m → Below (objectCount x) (x .roots) × (objectCount x ≤ 2 ^ 32) × ClassMarks (objectCount x) w
   roots-asked w m e =
-      ((λ i l. root-in x h i l), omega (arith, objects-few x h), (λ long o l. omega (arith, mark-is x m (omega (arith, ap length e, marks-long x m)) ok e o l, mark-most x o (classCount (x .schema)), classes-few x h)))
+      ((λ i l. root-in x (check-passed x ok) i l), omega (arith, objects-few x h), (λ long o l. omega (arith, mark-is x m (omega (arith, ap length e, marks-long x m)) ok e o l, mark-most x o (classCount (x .schema)), classes-few x h)))

@@ -1,18 +1,17 @@
 -- How the stages of the first half come together. Assumes nothing.
-use Prim.Native.Nat.{ℕ, zero, suc, _+_, _^_, _≤_, _<_, min}
+use Prim.Native.Nat.{ℕ, zero, suc, _+_, _≤_, _<_, min}
 use native.Mathlib.Numerals.{add-one}
 use native.Mathlib.Omega.{arith}
 use mathlib.Core.Path.{_≡_, refl, sym, ap, _∙_}
 use mathlib.Core.Bool.{Bool, true, false, cond, true≢false}
 use mathlib.Core.Logic.{inl, inr}
 use mathlib.Core.List.{List, [], _∷_}
-use lib.Dec.{ltb}
-use lib.ListN.{length, take, drop}
-use lib.Seq.{take-at}
+use lib.ListN.{length}
 use borrow.Author.Tests.{lt-ltb}
 use Rattle.columns.specs.Lists.{_!_}
 use Rattle.columns.specs.Columns.{over, accepts}
 use Rattle.columns.proofs.Lists.{tab-at}
+use Rattle.columns.proofs.Written.{begins-over}
 use Rattle.rules.specs.declared.Built.{Built}
 use Rattle.rules.specs.declared.Built.the-variants as Built
 use Rattle.rules.specs.declared.Checked.{Checked}
@@ -21,19 +20,19 @@ use Rattle.rules.specs.Input.{Input, objectCount, classCount, classesAt, foundA
 use Rattle.rules.specs.Edges.{graph, distinctRoots}
 use Rattle.rules.specs.Account.{noAccount}
 use Rattle.rules.specs.Places.{placeCount}
-use Rattle.rules.specs.Needs.{needWeak, needRoots}
-use Rattle.rules.specs.Verdict.{firstOf, faults, checkSays, at}
+use Rattle.rules.specs.Needs.{needWeak, needRoots, Fits}
+use Rattle.rules.specs.Verdict.{firstOf, faults, checkSays, at, plainCounts}
 use Rattle.rules.proofs.Types.{refusal-refuses}
 use Rattle.rules.proofs.Acceptance.{check-passed, faults-refuse}
 use Rattle.check_tables.specs.Found.{marks, marksIf, markTo, markAt}
 use Rattle.check_input.specs.Flat.{Judged, Fitted, marksLeft}
-use Rattle.need_roots.specs.Roots.{Collected, ClassMarks, Below}
+use Rattle.need_roots.specs.Roots.{Collected}
 use Rattle.edge_append.specs.Object.{marked}
-use Rattle.edge_pass.specs.Stage.{Handed, Edged, edgesSaid, withPass}
+use Rattle.edge_pass.specs.Stage.{Handed, Edged, edgesSaid}
 use Rattle.edge_pass.proofs.Accepted.{marks-tell}
-use Rattle.build_rooms.specs.Stages.{Early, early, shortEarly, roomSays, plain, edgesSays, edgeSays, Fits, Begins, Laid}
+use Rattle.build_rooms.specs.Stages.{Early, early, shortEarly, roomSays, edgesSays}
 use Rattle.build_rooms.proofs.Fitting.{fits-need}
-use Rattle.build_rooms.proofs.Enough.{Enough, enough, room-accepts}
+use Rattle.build_rooms.proofs.Enough.{enough, room-accepts}
 use Rattle.build_rooms.proofs.Compose.{edge-said}
 use Rattle.build_edges.specs.Laying.{Laying}
 
@@ -110,10 +109,6 @@ pub told-accepts : (x : Input) (p : ℕ) (c : List ℕ) → c ≡ firstOf (fault
 unfolding checkSays accepts
 told-accepts x p c e ok = rw (faults-refuse x .none-met (0 ∷ p ∷ []) (ap accepts (sym e) ∙ ok))
 
-take-over : (xs d : List ℕ) → take (length xs) (over xs d) ≡ xs
-unfolding over
-take-over xs d = take-at xs (drop (length xs) d) (length xs) refl
-
 -- The first half, from what each stage says.
 module _
     (x : Input) (b s : ℕ) {c : Checked} (v : Built) (p w n : ℕ) (ts₀ ls₀ fs₀ ws₀ rs₀ wk₀ : List ℕ) {wk₁ : List ℕ} (wk₂ rs : List ℕ)
@@ -173,7 +168,7 @@ module _
         where
           go : (t : Bool) → accepts (builtSays v) ≡ t
               → cond (accepts (builtSays v)) (0 ∷ length (graph x .targets) ∷ length (graph x .weakFrom) ∷ builtSays v ! 3 ∷ builtSays v ! 4 ∷ builtSays v ! 5 ∷ builtSays v ! 6 ∷ graph x .dangling ∷ []) (builtSays v)
-              ≡ cond (accepts (builtSays v)) (plain (graph x)) (builtSays v)
+              ≡ cond (accepts (builtSays v)) (plainCounts (graph x)) (builtSays v)
           go true h =
               let ok = passed h .0 in
               let is = rooms ∙ room-done says w n (objectCount x + 1) e ok (passed h .1) in
@@ -193,11 +188,11 @@ module _
         answer = edge-said x (early (length ts₀) (length ls₀) (length fs₀) (length ws₀) (length rs₀) b s (length wk₀)) p w n (j .answer) (j .fits) weak roots-are (rooms ∙ rw (rn, kn)) pass-answer;
         laid = record {
           targets = λ h. edged .targets (same-accepts h);
-          labels = λ h. ap (take (length (graph x .labels))) (edged .labels (same-accepts h)) ∙ take-over (graph x .labels) ls₀;
+          labels = λ h. begins-over (graph x .labels) ls₀ (edged .labels (same-accepts h));
           weak-from = λ h. edged .objects (same-accepts h);
           weak-to = λ h. edged .weaks (same-accepts h);
           roots = λ h. roots-laid (same-accepts h);
-          offsets = λ h. ap (take (length (graph x .offsets))) (edged .offsets (same-accepts h)) ∙ take-over (graph x .offsets) wk₂;
+          offsets = λ h. begins-over (graph x .offsets) wk₂ (edged .offsets (same-accepts h));
           account = λ h. edged .account (same-accepts h);
         };
       }

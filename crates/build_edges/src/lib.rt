@@ -11,10 +11,10 @@ ghost use Rattle.columns.specs.Columns.{accepts};
 ghost use Rattle.index.specs.Copied.{idsOf};
 ghost use Rattle.rules.specs.Types.{checkedSays};
 ghost use Rattle.rules.specs.Account.{noAccount};
+ghost use Rattle.rules.specs.Needs.{Fits};
 ghost use Rattle.need_roots.specs.Roots.{Below, ClassMarks, Collected};
 ghost use Rattle.need_weak.specs.Pairs.{copiedTotal, rawTotal};
 ghost use Rattle.check_input.specs.Flat.{copiedInput, rawInput};
-ghost use Rattle.build_rooms.specs.Stages.{Fits};
 ghost use Rattle.build_edges.specs.Laying.{Laying, CopiedAsked, RawAsked};
 
 fn passed(c: Checked) -> bool

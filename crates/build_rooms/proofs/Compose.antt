@@ -1,28 +1,28 @@
 -- How the stages of a build come together: the answer, and all that is left. Assumes nothing.
 use Prim.Native.Nat.{ℕ, suc, _+_, _≤_, min}
-use native.Mathlib.Nat.{not-suc-le-zero}
 use native.Mathlib.Numerals.{add-one}
 use native.Mathlib.Omega.{arith}
 use mathlib.Core.Path.{_≡_, refl, sym, ap, _∙_}
 use mathlib.Core.Bool.{Bool, true, false, cond, true≢false}
 use mathlib.Core.List.{List, [], _∷_, _++_, append-assoc}
 use lib.Dec.{ltb}
-use lib.ListN.{length, length-append, length-map, drop}
+use lib.ListN.{length, length-append, drop}
 use Rattle.columns.specs.Lists.{_!_, anyOf}
 use Rattle.columns.specs.Columns.{zeros, over, cleared, accepts, leaves}
 use Rattle.columns.proofs.Lists.{tab-length}
 use Rattle.columns.proofs.Tests.{append-empty}
 use Rattle.columns.proofs.Written.{cleared-all, written-padded}
-use Rattle.store.specs.Blocked.{blocksOf}
+use Rattle.columns.proofs.Answers.{accepting}
 use Rattle.rules.specs.Input.{Input, objectCount}
-use Rattle.rules.specs.Edges.{Parts, graph, offset, weakPairs}
+use Rattle.rules.specs.Edges.{Parts, graph, offset}
 use Rattle.rules.specs.Places.{placeCount}
 use Rattle.rules.specs.Account.{account, noAccount}
-use Rattle.rules.specs.Needs.{Rooms, Lent, buffer, needWeak, needRoots, needOffsets, needBases, shortLater, shortOfBuild, shortOfParts}
-use Rattle.rules.specs.Verdict.{firstOf, at, faults, checkSays, counts, buildSays}
-use Rattle.rules.specs.Built.{CodedLeft, codedLeft, BuildLeft, buildLeft}
+use Rattle.rules.specs.Needs.{Rooms, Lent, buffer, needWeak, needRoots, needOffsets, needBases, shortLater, shortOfBuild, shortOfParts, Fits}
+use Rattle.rules.specs.Verdict.{firstOf, at, faults, counts, buildSays, plainCounts}
+use Rattle.rules.specs.Built.{CodedLeft, codedLeft, buildLeft}
 use Rattle.rules.proofs.Acceptance.{Refuse, refuse-append, refuse-at, at-empty, Passed, passed, faults-refuse, build-says}
-use Rattle.build_rooms.specs.Stages.{Early, earlyOf, shortEarly, roomSays, plain, edgesSays, edgeSays, Fits, kept, Settled, leftOf, roomsOf, Laid}
+use Rattle.rules.proofs.Finished.{weak-even}
+use Rattle.build_rooms.specs.Stages.{Early, earlyOf, shortEarly, roomSays, edgesSays, edgeSays, kept, Settled, leftOf, roomsOf, Laid}
 use Rattle.build_rooms.proofs.Fitting.{same-short}
 
 -- The first fault refuses.
@@ -42,10 +42,6 @@ last-room (k ∷ ks) a b h = refl
 offsets-are : (x : Input) → needOffsets (graph x) ≡ objectCount x + 1
 unfolding graph
 offsets-are x = tab-length (offset x) (suc (objectCount x)) ∙ sym (add-one (objectCount x))
-
-accepting : (xs : List ℕ) → accepts (0 ∷ xs) ≡ true
-unfolding accepts
-accepting xs = refl
 
 room-open : (p a b o : ℕ) (e : Early) → roomSays (0 ∷ p ∷ []) a b o e ≡ firstOf (at 9 (shortEarly p a b o e)) (0 ∷ 0 ∷ a ∷ b ∷ 0 ∷ 0 ∷ 0 ∷ 0 ∷ [])
 unfolding roomSays accepts
@@ -74,7 +70,7 @@ module _ (x : Input) (e : Early) {c v r : List ℕ} (p w n : ℕ) (checked : c �
         let a : List ℕ = 0 ∷ 0 ∷ w ∷ needRoots x ∷ 0 ∷ 0 ∷ 0 ∷ 0 ∷ [] in
         let same = same-short (placeCount x) (needWeak x) p w (needRoots x) (needOffsets (graph x)) e (placed ok) (weak ok) in
         let is : v ≡ firstOf (at 9 es) a = rooms ∙ rw (said, roots ok, ← offsets-are x, ← same) (room-open p w (needRoots x) (needOffsets (graph x)) e) in
-        edges ∙ rw (is, none) (last-room es a (plain (graph x)) (accepting _))
+        edges ∙ rw (is, none) (last-room es a (plainCounts (graph x)) (accepting _))
 
     fails : (f : List ℕ) (fs : List (List ℕ)) → faults x ≡ f ∷ fs → r ≡ edgeSays x e
     unfolding edgeSays
@@ -98,12 +94,12 @@ module _ (x : Input) (e : Early) (ok : accepts (edgeSays x e) ≡ true) where
 
   none-met : faults x ++ at 9 short ≡ []
   unfolding edgeSays
-  none-met = refuse-append (faults-refuse x) (refuse-at 9 refl short) .none-met (plain (graph x)) ok
+  none-met = refuse-append (faults-refuse x) (refuse-at 9 refl short) .none-met (plainCounts (graph x)) ok
 
   pub edge-passed : Passed x
   edge-passed = passed x (append-empty (faults x) (at 9 short) none-met .0)
 
-  pub edge-accepts : edgeSays x e ≡ plain (graph x)
+  pub edge-accepts : edgeSays x e ≡ plainCounts (graph x)
   unfolding edgeSays
   edge-accepts = rw none-met
 
@@ -147,7 +143,7 @@ build-accepts : (x : Input) (r : Rooms) → accepts (edgeSays x (earlyOf r)) ≡
 unfolding edgeSays
 build-accepts x r h =
     let es = earlyFor x r in
-    let none = append-empty (faults x) (at 9 es) (refuse-append (faults-refuse x) (refuse-at 9 refl es) .none-met (plain (graph x)) h) in
+    let none = append-empty (faults x) (at 9 es) (refuse-append (faults-refuse x) (refuse-at 9 refl es) .none-met (plainCounts (graph x)) h) in
     (none .0, at-empty 9 es (none .1))
 
 build-rest : (x : Input) (r : Rooms) → (faults x ≡ []) × (earlyFor x r ≡ [])
@@ -157,7 +153,7 @@ build-rest x r none = rw (none .0, short-cut x r, none .1, blocks-lent x r (none
 
 build-handed : (x : Input) (r : Rooms) → accepts (edgeSays x (earlyOf r)) ≡ false → buildSays x r ≡ edgeSays x (earlyOf r)
 unfolding buildSays edgeSays
-build-handed x r refused = rw (short-cut x r) (first-cut (faults x) (earlyFor x r) (shortLater (x .schema) (graph x) (r .coded)) (plain (graph x)) (counts (x .schema) (graph x)) (accepting _) refused)
+build-handed x r refused = rw (short-cut x r) (first-cut (faults x) (earlyFor x r) (shortLater (x .schema) (graph x) (r .coded)) (plainCounts (graph x)) (counts (x .schema) (graph x)) (accepting _) refused)
 
 -- the answer of the whole, from that of the first half
 pub build-said : (x : Input) (r : Rooms) {before says : List ℕ} → before ≡ edgeSays x (earlyOf r)
@@ -215,10 +211,6 @@ first-accepts before rest {says} then ok = go (accepts before) refl
     go true h = h
     go false h = absurd (true≢false (sym ok ∙ ap accepts (rw h at then) ∙ h))
 
-weak-even : (x : Input) → length (graph x .weakTo) ≡ length (graph x .weakFrom)
-unfolding graph
-weak-even x = length-map (weakPairs x) _ ∙ sym (length-map (weakPairs x) _)
-
 -- All that is left, from what each half leaves.
 module _
     (x : Input) (l : Lent) (ls₀ wk₀ : List ℕ) {before says ts₀ fs₀ ws₀ rs₀ ts₁ ls₁ fs₁ ws₁ rs₁ wk₁ ts ls fs ws rs wk : List ℕ} {a₁ a : List (List ℕ)} {d : CodedLeft}
@@ -259,6 +251,6 @@ module _
         (left-same refl (settled-column says (graph x .targets) ts₀ 1 (λ h. laid .targets (ok h)) told-edges tn (settled .targets))
         (settled .labels ∙ cleared-all ls₁ ∙ ap zeros ln)
         (settled-column says (graph x .weakFrom) fs₀ 2 (λ h. laid .weak-from (ok h)) told-weak fn (settled .weak-from))
-        (settled-column says (graph x .weakTo) ws₀ 2 (λ h. laid .weak-to (ok h)) (λ h. told-weak h ∙ sym (weak-even x)) wn (settled .weak-to))
+        (settled-column says (graph x .weakTo) ws₀ 2 (λ h. laid .weak-to (ok h)) (λ h. told-weak h ∙ weak-even x) wn (settled .weak-to))
         (settled-column says (graph x .roots) rs₀ 3 (λ h. laid .roots (ok h)) told-roots rn (settled .roots)) (settled .working ∙ cleared-all wk₁ ∙ ap zeros kn) coded
         (account-kept says x (λ h. laid .account (ok h)) (settled .account)))

@@ -1,35 +1,33 @@
 -- Refusals in order: what each test that passes leaves to decide, and what one that fails decides. Assumes nothing.
-use mathlib.Core.Path.{_≡_, refl, sym, ap, _∙_}
-use mathlib.Core.Bool.{Bool, true, false, cond, not, false≢true}
+use mathlib.Core.Path.{_≡_, refl, sym, _∙_}
+use mathlib.Core.Bool.{Bool, true, false, cond, false≢true}
 use mathlib.Core.List.{List, [], _∷_, _++_}
 use Prim.Native.Nat.{ℕ, suc, _≤_, _<_}
 use native.Mathlib.Omega.{arith}
-use borrow.Author.Tests.{lt-ltb, le-ltb, ltb-false, leb-false, eqb-true, ne-eqb, not-false}
-use lib.Dec.{eqb, ltb}
-use lib.ListN.{length, take, getD}
-use Rattle.columns.specs.Lists.{_!_, places, firstPlace, allOf, anyOf}
+use borrow.Author.Tests.{lt-ltb, le-ltb, leb-false, ne-eqb}
+use lib.Dec.{ltb}
+use lib.ListN.{length, take}
+use Rattle.columns.specs.Lists.{_!_, places, firstPlace}
 use Rattle.columns.specs.Columns.{accepts}
 use Rattle.columns.specs.Ranks.{Rises}
 use Rattle.columns.proofs.Lists.{first-none}
-use Rattle.columns.proofs.Sums.{collect-ext}
 use Rattle.columns.proofs.Tests.{none-of, second-fails}
-use Rattle.rules.specs.Input.{Input, Schema, Copied, Raw, Route.copied, Route.raw, objectCount, classCount}
-use Rattle.rules.specs.Verdict.{firstOf, at, once, schemaLengths, routeLengths, badLengths, badLimit, badSize, badObject, badDumped, badFind, badCopied, badSpan, badRoot, falls}
+use Rattle.columns.proofs.Ranks.{steps-rise}
+use Rattle.rules.specs.Input.{Input, Schema, objectCount, classCount}
+use Rattle.rules.specs.Verdict.{firstOf, at, once, badLengths, badLimit, badSize, badObject, badDumped, badFind, badCopied, badSpan, badRoot}
 use Rattle.rules.proofs.First.{first-append, first-once, first-place}
+use Rattle.rules.proofs.Even.{schema-lengths}
+use Rattle.rules.proofs.Acceptance.{size-allowed}
 use Rattle.check_input.specs.Flat.{faultsLate, faultsBefore}
 use Rattle.check_tables.specs.Lengths.{sizeOnly}
 use Rattle.check_tables.specs.Reads.{Tables}
-use Rattle.check_tables.proofs.Laws.{steps-rise}
+use Rattle.check_tables.proofs.Even.{schema-dumped, schema-tables}
 use Rattle.check_input.proofs.Either.{first-is}
 
 -- no refusal is an acceptance
 pub refused : {A : Type 0} (k : ℕ) (ps : List ℕ) → accepts (suc k ∷ ps) ≡ true → A
 unfolding accepts
 refused k ps e = absurd (false≢true (sym (ne-eqb (suc k) 0 (λ z. omega arith)) ∙ e))
-
-pub first-ext : (s t : ℕ → Bool) (n : ℕ) → ((i : ℕ) → s i ≡ t i) → firstPlace s n ≡ firstPlace t n
-unfolding places
-first-ext s t n h = ap (λ (xs : List ℕ). getD xs 0 n) (collect-ext _ _ n (λ i l. ap (λ (b : Bool). cond b (i ∷ []) []) (h i)))
 
 -- a number with place 0, and one with a lowest place, in front of others
 module _ (k : ℕ) (fs : List (List ℕ)) (done : List ℕ) where
@@ -121,52 +119,16 @@ module _ (x : Input) (h : badLengths x ≡ false) where
   abbrev k : Schema
   k = x .schema
 
-  pub objects-even : (length (x .objects .kinds) ≡ objectCount x) × (length (x .objects .classes) ≡ objectCount x) × (length (x .objects .lengths) ≡ objectCount x)
-  unfolding badLengths
-  objects-even = let d = none-of _ (none-of _ h 0) in (eqb-true _ _ (not-false _ (d 0)), eqb-true _ _ (not-false _ (d 1)), eqb-true _ _ (not-false _ (d 2)))
-
   pub dumped-even : length (k .classes .dumped) ≡ classCount k
-  unfolding badLengths schemaLengths
-  dumped-even = eqb-true _ _ (not-false _ (none-of _ (none-of _ (none-of _ h 1) 0) 1))
+  dumped-even = schema-dumped k (schema-lengths x h)
 
-  pub statics-even : (length (k .classes .loaders) ≡ classCount k) × (length (k .statics .values) ≡ length (k .statics .names))
-  unfolding badLengths schemaLengths
-  statics-even = let s = none-of _ (none-of _ h 1) in (eqb-true _ _ (not-false _ (none-of _ (s 0) 0)), eqb-true _ _ (not-false _ (none-of _ (s 3) 1)))
-
-  pub tables-even : Tables (k .classes .dumped) (k .classes .kinds) (k .classes .slotStart) (k .classes .slotEnd) (k .classes .staticStart) (k .classes .staticEnd) (k .slots .offsets) (k .slots .labels) (k .slots .weak) (k .statics .names) (k .statics .types)
-  unfolding badLengths schemaLengths
-  tables-even =
-      let s = none-of _ (none-of _ h 1) in
-      record {
-        kinds-long = eqb-true _ _ (not-false _ (none-of _ (s 0) 2)) ∙ sym dumped-even;
-        slot-starts-long = eqb-true _ _ (not-false _ (none-of _ (s 1) 0)) ∙ sym dumped-even;
-        slot-ends-long = eqb-true _ _ (not-false _ (none-of _ (s 1) 1)) ∙ sym dumped-even;
-        static-starts-long = eqb-true _ _ (not-false _ (none-of _ (s 1) 2)) ∙ sym dumped-even;
-        static-ends-long = eqb-true _ _ (not-false _ (none-of _ (s 1) 3)) ∙ sym dumped-even;
-        labels-long = eqb-true _ _ (not-false _ (none-of _ (s 2) 0));
-        weak-long = eqb-true _ _ (not-false _ (none-of _ (s 2) 1));
-        types-long = eqb-true _ _ (not-false _ (none-of _ (s 3) 0));
-      }
-
-  pub copied-even : (c : Copied) → x .route ≡ copied c → (length (c .ids .ids) ≡ length (c .ids .places)) × (length (c .starts) ≡ objectCount x)
-  unfolding badLengths routeLengths
-  copied-even c e =
-      let d = rw e at (none-of _ h 2) in
-      (eqb-true _ _ (not-false _ (none-of _ (none-of _ d 0) 0)), eqb-true _ _ (not-false _ (none-of _ (none-of _ d 1) 0)))
-
-  pub raw-even : (r : Raw) → x .route ≡ raw r → (length (r .starts) ≡ objectCount x) × (length (r .lengths) ≡ objectCount x)
-  unfolding badLengths routeLengths
-  raw-even r e = let d = none-of _ (rw e at (none-of _ h 2)) in (eqb-true _ _ (not-false _ (d 0)), eqb-true _ _ (not-false _ (d 1)))
+  pub tables-even : Tables (k .classes .dumped) (k .classes .kinds) (k .classes .slotStart) (k .classes .slotEnd) (k .classes .staticStart) (k .classes .staticEnd)
+      (k .slots .offsets) (k .slots .labels) (k .slots .weak) (k .statics .names) (k .statics .types)
+  tables-even = schema-tables k (schema-lengths x h)
 
 -- an id size that is allowed is at most 8
 pub size-small : (size : ℕ) → badSize (sizeOnly size) ≡ false → size ≤ 8
-unfolding badSize anyOf
-size-small size h = go (eqb size 4) refl (eqb size 8) refl h
-  where
-    go : (a : Bool) → eqb size 4 ≡ a → (b : Bool) → eqb size 8 ≡ b → not (anyOf (a ∷ b ∷ [])) ≡ false → size ≤ 8
-    go true ea b eb h = omega (arith, eqb-true size 4 ea)
-    go false ea true eb h = omega (arith, eqb-true size 8 eb)
-    go false ea false eb h = absurd (false≢true (sym h))
+size-small size h = size-allowed _ h
 
 -- Ids rise where no object is at fault.
 pub ids-rise : (x : Input) {o : ℕ} → o ≡ firstPlace (badObject x) (objectCount x) → objectCount x ≤ o → Rises (x .objects .ids)

@@ -7,29 +7,25 @@ use mathlib.Core.List.{List, [], _∷_, _++_, append-assoc}
 use Prim.Native.Nat.{ℕ, zero, suc, _≤_}
 use native.Mathlib.Omega.{arith}
 use lib.Dec.{ltb}
-use lib.ListN.{length, length-replicate}
+use lib.ListN.{length}
 use Rattle.columns.specs.Lists.{_!_, places, allOf}
-use Rattle.columns.specs.Columns.{zeros, cleared, accepts}
-use Rattle.columns.proofs.Written.{cleared-all}
-use Rattle.columns.proofs.Sums.{collect-ext, tab-ext}
+use Rattle.columns.specs.Columns.{zeros, accepts}
+use Rattle.columns.proofs.Sums.{tab-ext}
+use Rattle.columns.proofs.Parts.{places-ext}
 use Rattle.rules.specs.declared.ReferencePolicy.{ReferencePolicy}
 use Rattle.rules.specs.Input.{Input, Route, Route.copied, Route.raw, objectCount, classCount, slotCount, elementCount, foundAt}
 use Rattle.rules.specs.Places.{placeCount}
-use Rattle.rules.specs.Verdict.{firstOf, at, once, badLengths, badLimit, badObject, badDumped, badClass, badCopied, badSpan, badPart, badRoot, overPlaces, faults, checkSays}
+use Rattle.rules.specs.Verdict.{firstOf, at, once, badLengths, badLimit, badObject, badDumped, badCopied, badSpan, badPart, badRoot, overPlaces, faults, checkSays}
+use Rattle.rules.specs.Needs.{Fits}
 use Rattle.rules.proofs.First.{first-append, first-once}
 use Rattle.check_tables.specs.Found.{findColumns, markTo, markAt, marks, marksIf}
 use Rattle.check_input.specs.Flat.{faultsLate, faultsBefore, limitSays, countedSays, Counted, allowed, marksLeft}
-use Rattle.build_rooms.specs.Stages.{Fits}
 use Rattle.check_input.proofs.Narrow.{same-dumped}
 use Rattle.check_input.proofs.Sound.{before-refuse}
 
 -- The tests before PLACES do not read the policy.
 abbrev pub withPolicy : Input → ReferencePolicy → Input
 withPolicy x p = record { objects = x .objects; schema = x .schema; roots = x .roots; route = x .route; policy = p }
-
-places-ext : (s t : ℕ → Bool) (n : ℕ) → ((i : ℕ) → s i ≡ t i) → places s n ≡ places t n
-unfolding places
-places-ext s t n h = collect-ext _ _ n (λ i l. ap (λ (b : Bool). cond b (i ∷ []) []) (h i))
 
 part-policy : (x : Input) (p : ReferencePolicy) (o : ℕ) (t : Route) → badPart (withPolicy x p) t o ≡ badPart x t o
 unfolding badPart slotCount elementCount
@@ -45,7 +41,7 @@ module _ (x : Input) (p : ReferencePolicy) where
   unfolding faultsLate
   late-policy =
       ap (λ (ps : List ℕ). at 5 (badCopied (x .route)) ++ (at 6 ps ++ at 7 (places (badRoot (objectCount x) (x .roots)) (length (x .roots)))))
-      (places-ext (badSpan (withPolicy x p)) (badSpan x) (objectCount x) span-policy)
+      (places-ext (badSpan (withPolicy x p)) (badSpan x) (objectCount x) (λ o l. span-policy o))
 
   dumped-policy : (c : ℕ) → badDumped (withPolicy x p) c ≡ badDumped x c
   dumped-policy c = sym (same-dumped (withPolicy x p) c) ∙ same-dumped x c
@@ -54,7 +50,7 @@ module _ (x : Input) (p : ReferencePolicy) where
   unfolding faultsBefore badLengths badLimit badObject
   before-policy =
       ap (λ (ps : List ℕ). at 1 (once (badLengths x)) ++ (at 2 (once (badLimit x)) ++ (at 3 (places (badObject x) (objectCount x)) ++ (at 4 ps ++ faultsLate (withPolicy x p)))))
-      (places-ext (badDumped (withPolicy x p)) (badDumped x) (classCount (x .schema)) dumped-policy)
+      (places-ext (badDumped (withPolicy x p)) (badDumped x) (classCount (x .schema)) (λ c l. dumped-policy c))
       ∙ ap (λ (fs : List (List ℕ)). at 1 (once (badLengths x)) ++ (at 2 (once (badLimit x)) ++ (at 3 (places (badObject x) (objectCount x)) ++ (at 4 (places (badDumped x) (classCount (x .schema))) ++ fs))))
       late-policy
 
@@ -182,13 +178,3 @@ module _ (x : Input) where
       go : (a : Bool) → accepts answer ≡ a → (b : Bool) → b ≡ accepts answer → cond b w (zeros (length w)) ≡ cond (accepts answer) (marksIf x (classCount (x .schema)) m) (zeros m)
       go true e b f = rw (f, e) (marked (counted-before n k tested ec e) ∙ same-marks (classCount (x .schema)) m)
       go false e b f = rw (f, e) (ap zeros same)
-
--- a column that was cleared whole
-pub zeroed : (d : List ℕ) {w : List ℕ} → w ≡ cleared 0 d → w ≡ zeros (length d)
-zeroed d e = e ∙ cleared-all d
-
-pub zeroed-length : (d : List ℕ) {w : List ℕ} → w ≡ cleared 0 d → length w ≡ length d
-zeroed-length d e = ap length (zeroed d e) ∙ length-replicate (length d) 0
-
-pub zeroed-own : (d : List ℕ) {w : List ℕ} → w ≡ cleared 0 d → w ≡ zeros (length w)
-zeroed-own d e = zeroed d e ∙ ap zeros (sym (zeroed-length d e))

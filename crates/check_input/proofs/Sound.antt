@@ -1,34 +1,24 @@
 -- An input that passed the tests before PLACES, as facts, and what counting its places asks. Assumes nothing.
 use mathlib.Core.Path.{_≡_, refl, sym, ap, _∙_}
-use mathlib.Core.Bool.{Bool, true, false, cond}
-use mathlib.Core.List.{List, [], _∷_, _++_, append-nil}
-use Prim.Native.Nat.{ℕ, zero, suc, _+_, _-_, _≤_, _<_}
+use mathlib.Core.Bool.{true}
+use mathlib.Core.List.{List, [], _∷_}
+use Prim.Native.Nat.{ℕ, _-_, _<_}
 use native.Mathlib.Omega.{arith}
-use borrow.Author.Tests.{lt-ltb, leb-false, ltb-false, eqb-true, eq-eqb, not-false}
-use lib.ListN.{length}
+use borrow.Author.Tests.{eq-eqb}
 use Rattle.columns.specs.Lists.{_!_, places}
 use Rattle.columns.specs.Columns.{accepts}
-use Rattle.columns.specs.Ranks.{Rises}
-use Rattle.columns.proofs.Tests.{none-of, second-fails, append-empty, places-none}
+use Rattle.columns.proofs.Tests.{append-empty, places-none}
 use Rattle.rules.specs.Input.{Input, Copied, Raw, Route.copied, Route.raw, objectCount, classCount, slotCount, elementCount}
-use Rattle.rules.specs.Verdict.{firstOf, at, once, badLengths, schemaLengths, badLimit, overLimit, badObject, badDumped, badClass, badCopied, badCode, badEscape, falls, badSpan, badPart, badRoot}
+use Rattle.rules.specs.Verdict.{firstOf, at, once, badLengths, badLimit, badObject, badDumped, badCopied, badSpan}
 use Rattle.rules.specs.Places.{placeCount}
-use Rattle.rules.proofs.Acceptance.{Refuse, refuse-append, refuse-at, at-empty, once-empty}
+use Rattle.rules.proofs.Acceptance.{Refuse, refuse-append, refuse-at, at-empty, once-empty, Sound, ids-rise, objects-few, classes-few, slots-ordered, slots-in, statics-ordered}
+use Rattle.rules.proofs.Acceptance.{statics-in, class-in, copied-span, codes-good}
+use Rattle.rules.proofs.Even.{objects-even, copied-even, input-even}
 use Rattle.check_tables.specs.Spans.{partOf, slotsOf}
-use Rattle.check_tables.proofs.Laws.{steps-rise}
-use Rattle.check_places.specs.Placing.{Ranges, ClassTables, PartTables, CodeTables, Stands, rawPlaces, copiedPlaces}
+use Rattle.check_places.specs.Placing.{ClassTables, PartTables, CodeTables, rawPlaces, copiedPlaces}
 use Rattle.check_places.proofs.Routes.{raw-placed, copied-placed}
 use Rattle.check_input.specs.Flat.{faultsLate, faultsBefore}
-use Rattle.check_input.proofs.Chain.{objects-even, dumped-even, tables-even, copied-even, statics-even}
-
--- the tests before PLACES
-pub record Sound (x : Input) : Type 0 where
-  pub lengths : badLengths x ≡ false
-  pub limits : badLimit x ≡ false
-  pub object : (o : ℕ) → o < objectCount x → badObject x o ≡ false
-  pub class : (c : ℕ) → c < classCount (x .schema) → badDumped x c ≡ false
-  pub copied : badCopied (x .route) ≡ []
-  pub span : (o : ℕ) → o < objectCount x → badSpan x o ≡ false
+use Rattle.check_input.proofs.Chain.{dumped-even, tables-even}
 
 module _ (x : Input) where
   pub before-refuse : Refuse (faultsBefore x)
@@ -68,52 +58,23 @@ module _ (x : Input) where
     told-before = ap (λ (s : List ℕ). s ! 1) (e ∙ ap (λ (fs : List (List ℕ)). firstOf fs (0 ∷ n ∷ [])) none-before)
 
 module _ (x : Input) (h : Sound x) where
-  ids-rise : Rises (x .objects .ids)
-  unfolding badObject
-  ids-rise =
-      steps-rise (x .objects .ids)
-      (λ i l. leb-false (x .objects .ids ! suc i) (x .objects .ids ! i) (second-fails _ _ (none-of _ (h .object (suc i) l) 1) (lt-ltb 0 (suc i) (omega arith))))
-
-  few-objects : objectCount x ≤ 67108864
-  unfolding badLimit overLimit
-  few-objects = ltb-false _ _ (none-of _ (none-of _ (none-of _ (h .limits) 0) 0) 0)
-
-  few-classes : classCount (x .schema) ≤ 67108864
-  unfolding badLimit overLimit
-  few-classes = ltb-false _ _ (none-of _ (none-of _ (none-of _ (h .limits) 0) 0) 1)
-
-  module _ (c : ℕ) (l : c < classCount (x .schema)) where
-    own-good : badClass (x .schema) c ≡ false
-    unfolding badDumped
-    own-good = none-of _ (h .class c l) 0
-
-    slots-in : (x .schema .classes .slotStart ! c ≤ x .schema .classes .slotEnd ! c) × (x .schema .classes .slotEnd ! c ≤ length (x .schema .slots .offsets))
-    unfolding badClass
-    slots-in = (ltb-false _ _ (none-of _ own-good 2), ltb-false _ _ (none-of _ own-good 3))
-
-    statics-in : (x .schema .classes .staticStart ! c ≤ x .schema .classes .staticEnd ! c) × (x .schema .classes .staticEnd ! c ≤ length (x .schema .statics .names))
-    unfolding badClass
-    statics-in = (ltb-false _ _ (none-of _ own-good 4), ltb-false _ _ (none-of _ own-good 5))
-
-  class-in : (o : ℕ) → o < objectCount x → x .objects .kinds ! o ≡ 0 → x .objects .classes ! o < classCount (x .schema)
-  unfolding badObject
-  class-in o l e = leb-false _ _ (second-fails _ _ (none-of _ (h .object o l) 3) (eq-eqb _ _ e))
-
   -- what counting asks of the classes; of the objects on the raw route
   pub class-tables : ClassTables (x .objects .ids) (x .schema .classes .ids) (x .schema .classes .loaders) (x .schema .classes .dumped) (x .schema .classes .staticStart) (x .schema .classes .staticEnd) (x .schema .statics .types) (x .schema .statics .values)
   class-tables =
       let t = tables-even x (h .lengths) in
       let d = dumped-even x (h .lengths) in
-      let s = statics-even x (h .lengths) in
+      let s = input-even x (h .lengths) in
       record {
-        rising = ids-rise;
-        loaders-long = s .0;
+        rising = ids-rise x h;
+        loaders-long = s .loaders;
         dumped-long = d;
         starts-long = t .static-starts-long ∙ d;
         ends-long = t .static-ends-long ∙ d;
-        values-long = s .1 ∙ sym (t .types-long);
-        ranges = λ c l. let r = statics-in c (omega (arith, t .static-starts-long, d)) in (r .0, omega (arith, r .1, t .types-long));
-        few = few-classes;
+        values-long = s .static-values ∙ sym (t .types-long);
+        ranges = λ c l.
+            let m : c < classCount (x .schema) = omega (arith, t .static-starts-long, d) in
+            (statics-ordered x h c m, omega (arith, statics-in x h c m, t .types-long));
+        few = classes-few x h;
       }
 
   pub part-tables : PartTables (x .objects .kinds) (x .objects .classes) (x .objects .lengths) (x .schema .classes .slotStart) (x .schema .classes .slotEnd)
@@ -124,30 +85,17 @@ module _ (x : Input) (h : Sound x) where
         classes-long = o .1 ∙ sym (o .0);
         lengths-long = o .2 ∙ sym (o .0);
         ends-long = t .slot-ends-long ∙ sym (t .slot-starts-long);
-        few = omega (arith, o .0, few-objects);
+        few = omega (arith, o .0, objects-few x h);
       }
 
   -- The places that are counted are those of the input, on the raw route,
   pub raw-counted : (r : Raw) → x .route ≡ raw r →
       let k = x .schema .classes in
       placeCount x ≡ rawPlaces (x .objects .ids) (x .objects .kinds) (x .objects .classes) (x .objects .lengths) (k .ids) (k .loaders) (k .dumped) (k .slotStart) (k .slotEnd) (k .staticStart) (k .staticEnd) (x .schema .statics .types) (x .schema .statics .values)
-  raw-counted r e = raw-placed x r e ids-rise (objects-even x (h .lengths) .0)
+  raw-counted r e = raw-placed x r e (ids-rise x h) (objects-even x (h .lengths) .0)
 
   -- and on the copied route.
   module _ (d : Copied) (e : x .route ≡ copied d) where
-    part-in : (o : ℕ) → o < objectCount x → x .objects .kinds ! o < 2 → d .starts ! o + (slotCount x o + elementCount x o) ≤ length (d .ids .codes)
-    unfolding badSpan badPart slotCount elementCount
-    part-in o l k = ltb-false _ _ (rw e at (second-fails _ _ (h .span o l) (lt-ltb _ 2 k)))
-
-    codes-good : (p : ℕ) → p < length (d .ids .codes) → badCode (d .ids) p ≡ false
-    unfolding badCopied
-    codes-good p l =
-        let e0 : badCopied (copied d) ≡ [] = ap badCopied (sym e) ∙ h .copied in
-        let falling = places (falls (d .ids .places)) (length (d .ids .places)) in
-        let codes = places (badCode (d .ids)) (length (d .ids .codes)) in
-        let e1 = append-empty (falling ++ codes) (places (badEscape (d .ids)) (length (d .ids .places))) e0 in
-        places-none (badCode (d .ids)) _ p (append-empty falling codes (e1 .0) .1) l
-
     pub code-tables : CodeTables (x .objects .kinds) (x .objects .classes) (x .objects .lengths) (x .schema .classes .kinds) (x .schema .classes .slotStart) (x .schema .classes .slotEnd) (x .schema .slots .weak) (d .ids .codes) (d .starts)
     unfolding partOf slotsOf slotCount elementCount
     code-tables =
@@ -161,14 +109,16 @@ module _ (x : Input) (h : Sound x) where
           stands = λ i l. record {
             kinds-long = t .kinds-long ∙ sym (t .slot-starts-long);
             ends-long = t .slot-ends-long ∙ sym (t .slot-starts-long);
-            ranges = λ c m. let r = slots-in c (omega (arith, t .slot-starts-long, f)) in (r .0, omega (arith, r .1, t .weak-long));
-            class-in = λ z. omega (arith, class-in i (omega (arith, o .0)) z, t .slot-starts-long, f);
-            span = λ z. part-in i (omega (arith, o .0)) z;
+            ranges = λ c m.
+                let l : c < classCount (x .schema) = omega (arith, t .slot-starts-long, f) in
+                (slots-ordered x h c l, omega (arith, slots-in x h c l, t .weak-long));
+            class-in = λ z. omega (arith, class-in x h i (omega (arith, o .0)) (eq-eqb _ _ z), t .slot-starts-long, f);
+            span = λ z. copied-span x h d e i (omega (arith, o .0)) z;
           };
-          few = omega (arith, o .0, few-objects);
+          few = omega (arith, o .0, objects-few x h);
         }
 
     pub copied-counted :
         let k = x .schema .classes in
         placeCount x ≡ copiedPlaces (x .objects .ids) (x .objects .kinds) (x .objects .classes) (x .objects .lengths) (k .ids) (k .loaders) (k .dumped) (k .kinds) (k .slotStart) (k .slotEnd) (k .staticStart) (k .staticEnd) (x .schema .slots .weak) (x .schema .statics .types) (x .schema .statics .values) (d .ids .codes) (d .starts) (x .policy)
-    copied-counted = copied-placed x d e codes-good ids-rise (objects-even x (h .lengths) .0) part-in
+    copied-counted = copied-placed x d e (codes-good x h d e) (ids-rise x h) (objects-even x (h .lengths) .0) (copied-span x h d e)

@@ -12,10 +12,10 @@ use Rattle.rules.specs.Types.{checkedSays}
 use Rattle.rules.specs.Input.{Input, classCount}
 use Rattle.rules.specs.Places.{placeCount}
 use Rattle.rules.specs.Verdict.{firstOf, faults, checkSays}
+use Rattle.rules.specs.Needs.{Fits}
 use Rattle.rules.proofs.Types.{one-checked}
 use Rattle.rules.proofs.Acceptance.{Passed, check-passed, faults-refuse}
 use Rattle.check_tables.specs.Found.{marksIf}
-use Rattle.build_rooms.specs.Stages.{Fits}
 use Rattle.check_input.specs.Flat.{marksLeft, Judged, Fitted}
 use Rattle.check_input.proofs.Join.{told-accepts}
 

@@ -12,10 +12,10 @@ use Rattle.rules.specs.declared.ReferencePolicy.{ReferencePolicy}
 use Rattle.rules.specs.Input.{Schema, Route, Route.copied, Route.raw, Input, objectCount, classCount}
 use Rattle.rules.specs.Places.{placeCount}
 use Rattle.rules.specs.Verdict.{firstOf, at, once, badLengths, badLimit, badObject, badDumped, badCopied, badSpan, badRoot, overPlaces, faults, checkSays}
+use Rattle.rules.specs.Needs.{Fits}
 use Rattle.check_tables.specs.Found.{marksIf}
 use Rattle.check_tables.specs.Reads.{noPolicy, noRoute}
 use Rattle.check_tables.specs.Lengths.{schemaOf}
-use Rattle.build_rooms.specs.Stages.{Fits}
 
 -- an input of the tables that both routes share
 abbrev tables : List ℕ → List ℕ → List ℕ → List ℕ → Schema → List ℕ → Route → ReferencePolicy → Input

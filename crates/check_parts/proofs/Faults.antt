@@ -3,22 +3,22 @@ use mathlib.Core.Path.{_≡_, refl, sym, ap, _∙_}
 use mathlib.Core.Logic.{_⊎_, inl, inr}
 use mathlib.Core.Bool.{Bool, true, false, cond, not, _||_, _&&_}
 use mathlib.Core.List.{List, [], _∷_, _++_, append-nil}
-use Prim.Native.Nat.{ℕ, zero, suc, pred, _+_, _-_, _≤_, _<_, min, zero-le}
+use Prim.Native.Nat.{ℕ, zero, suc, _+_, _-_, _≤_, _<_, min, zero-le}
 use native.Mathlib.Numerals.{add-one}
 use native.Mathlib.Omega.{arith}
 use borrow.Author.Tests.{lt-ltb, le-ltb, ltb-false, le-leb, lt-leb, eq-eqb, ne-eqb, eqb-true, eqb-false, not-false}
 use lib.Dec.{eqb, leb, ltb}
 use lib.ListN.{length, take, getD}
 use lib.Seq.{getD-take, length-take-le}
-use Rattle.columns.specs.Lists.{_!_, collect, places, firstPlace, part, allOf, anyOf}
+use Rattle.columns.specs.Lists.{_!_, places, firstPlace, part, allOf, anyOf}
 use Rattle.columns.proofs.Lists.{lt-or-ge}
-use Rattle.columns.proofs.Tests.{or-true, none-of, append-empty, places-none}
+use Rattle.columns.proofs.Tests.{or-true, none-of, append-empty, places-none, and-true, or-none}
 use Rattle.columns.proofs.Sums.{part-length}
 use Rattle.columns.proofs.Parts.{places-ext}
 use Rattle.columns.proofs.First.{Searching, searching-start, searching-more}
 use Rattle.labels.specs.Coding.{LaidOut}
 use Rattle.labels.proofs.Codes.{laid-within}
-use Rattle.rules.specs.Types.{LOADER, ARRAY-ELEMENT, isElement}
+use Rattle.rules.specs.Types.{LOADER, ARRAY-ELEMENT}
 use Rattle.rules.specs.Edges.{pairLe}
 use Rattle.rules.specs.Labels.{after, expected}
 use Rattle.rules.specs.Verdict.{once, badRoot}
@@ -191,10 +191,6 @@ least : (a b : ℕ) → ltb 0 a || (eqb 0 a && leb 0 b) ≡ true
 least zero b = le-leb 0 b zero-le
 least (suc a) b = rw (lt-ltb 0 (suc a) (omega arith))
 
-and-true : (b : Bool) → b && true ≡ b
-and-true true = refl
-and-true false = refl
-
 pub pair-at : (m : ℕ) (from to : List ℕ) (i : ℕ) → badPair m from to i ≡ pairFault m (prior from i) (prior to i) (from ! i) (to ! i)
 unfolding badPair pairFault allOf
 pair-at m from to zero = rw (least (from ! 0) (to ! 0))
@@ -206,10 +202,6 @@ not-le a b = go (lt-or-ge b a)
     go : (b < a) ⊎ (a ≤ b) → not (leb a b) ≡ ltb b a
     go (inl l) = rw (lt-leb a b l, lt-ltb b a l)
     go (inr l) = rw (le-leb a b l, le-ltb b a l)
-
-or-false′ : (b : Bool) → b || false ≡ b
-or-false′ true = refl
-or-false′ false = refl
 
 -- the pair behind another: later, earlier, or of the same object
 module _ (m a₀ b₀ a b : ℕ) where
@@ -223,4 +215,4 @@ module _ (m a₀ b₀ a b : ℕ) where
 
   pub pair-same : a < m → b < m → a₀ ≡ a → pairFault m a₀ b₀ a b ≡ ltb b b₀
   unfolding pairFault anyOf
-  pair-same j k e = rw (lt-leb m a j, lt-leb m b k, le-ltb a₀ a (omega arith), eq-eqb a₀ a e) (or-false′ (not (leb b₀ b)) ∙ not-le b₀ b)
+  pair-same j k e = rw (lt-leb m a j, lt-leb m b k, le-ltb a₀ a (omega arith), eq-eqb a₀ a e) (or-none (not (leb b₀ b)) ∙ not-le b₀ b)

@@ -1,6 +1,6 @@
 -- The checks of `from_parts` in their order: what each test decides, and what it leaves to decide. Assumes nothing.
-use mathlib.Core.Path.{_≡_, refl, sym, ap, _∙_}
-use mathlib.Core.Bool.{Bool, true, false, cond}
+use mathlib.Core.Path.{_≡_, sym, _∙_}
+use mathlib.Core.Bool.{Bool, true, false}
 use mathlib.Core.List.{List, [], _∷_}
 use Prim.Native.Nat.{ℕ, _≤_, _<_}
 use borrow.Author.Tests.{lt-ltb, le-ltb, eqb-true, not-false}
@@ -13,28 +13,6 @@ use Rattle.rules.specs.Needs.{objectsOf}
 use Rattle.rules.specs.Verdict.{firstOf, differs, schemaLengths, overLimit, badClass, overPlaces}
 use Rattle.rules.specs.Parts.{partsFaults, handedSays}
 use Rattle.rules.proofs.First.{whenBad, lowestBad, handed-chain}
-use Rattle.check_tables.specs.Reads.{Tables}
-
--- columns of one length
-module _ (s : Schema) (h : schemaLengths s ≡ false) where
-  pub dumped-even : length (s .classes .dumped) ≡ classCount s
-  unfolding schemaLengths
-  dumped-even = eqb-true _ _ (not-false _ (none-of _ (none-of _ h 0) 1))
-
-  pub tables-even : Tables (s .classes .dumped) (s .classes .kinds) (s .classes .slotStart) (s .classes .slotEnd) (s .classes .staticStart) (s .classes .staticEnd) (s .slots .offsets) (s .slots .labels) (s .slots .weak) (s .statics .names) (s .statics .types)
-  unfolding schemaLengths
-  tables-even =
-      let d = none-of _ h in
-      record {
-        kinds-long = eqb-true _ _ (not-false _ (none-of _ (d 0) 2)) ∙ sym dumped-even;
-        slot-starts-long = eqb-true _ _ (not-false _ (none-of _ (d 1) 0)) ∙ sym dumped-even;
-        slot-ends-long = eqb-true _ _ (not-false _ (none-of _ (d 1) 1)) ∙ sym dumped-even;
-        static-starts-long = eqb-true _ _ (not-false _ (none-of _ (d 1) 2)) ∙ sym dumped-even;
-        static-ends-long = eqb-true _ _ (not-false _ (none-of _ (d 1) 3)) ∙ sym dumped-even;
-        labels-long = eqb-true _ _ (not-false _ (none-of _ (d 2) 0));
-        weak-long = eqb-true _ _ (not-false _ (none-of _ (d 2) 1));
-        types-long = eqb-true _ _ (not-false _ (none-of _ (d 3) 0));
-      }
 
 module _ (s : Schema) (p : Parts) where
   abbrev done : List ℕ

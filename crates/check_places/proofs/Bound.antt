@@ -1,22 +1,21 @@
 -- The bound on the places: parts one behind the other hold no more codes than there are, and nothing has more places than the bound. Assumes nothing.
-use mathlib.Core.Path.{_≡_, refl, sym, ap, _∙_}
+use mathlib.Core.Path.{_≡_, refl, sym, _∙_}
 use mathlib.Core.Bool.{Bool, true, false, cond, not}
 use mathlib.Core.List.{List, [], _∷_}
 use Prim.Native.Nat.{ℕ, zero, suc, _+_, _-_, _≤_, _<_, zero-le}
-use native.Mathlib.Nat.{add-zero, zero-add, add-suc, le-refl}
+use native.Mathlib.Nat.{add-zero, zero-add, add-suc}
 use native.Mathlib.Numerals.{add-one}
 use native.Mathlib.Omega.{arith}
-use borrow.Author.Tests.{eq-eqb, ne-eqb, eqb-true}
+use borrow.Author.Tests.{eqb-true}
 use lib.Dec.{eqb, ltb}
 use lib.ListN.{length}
 use Rattle.columns.specs.Lists.{_!_, one, total, allOf, anyOf}
-use Rattle.columns.proofs.Sums.{total-ext, total-le, total-le-total}
+use Rattle.columns.proofs.Sums.{total-ext, total-le, total-le-total, one-few}
 use Rattle.rules.specs.declared.ReferencePolicy.{ReferencePolicy}
 use Rattle.rules.specs.Types.{keeps}
 use Rattle.check_tables.specs.Copying.{heldCodes}
 use Rattle.check_tables.specs.Found.{placeFor}
 use Rattle.check_tables.specs.Spans.{partOf, slotsOf}
-use Rattle.check_tables.proofs.Laws.{one-small}
 use Rattle.check_places.specs.Placing.{partAt, slotHeld, slotAt, codeAt, objectPlaces, heldAt, isHeld, staticHeld, staticAt, classPlaces, copiedPlaces, codesIn, mostPlaces, CodeTables, PartsIn}
 
 -- the codes up to the end of a range: those before it, and its own
@@ -93,7 +92,7 @@ unfolding isHeld anyOf
 held-most ids id = refl
 
 one-true : (b : Bool) {c : Bool} → c ≡ true → one b ≤ one c
-one-true b e = rw e (one-small b)
+one-true b e = rw e (one-few b)
 
 both-most : (t b : Bool) {c : Bool} → c ≡ true → one (allOf (t ∷ b ∷ [])) ≤ one (allOf (t ∷ c ∷ []))
 unfolding allOf

@@ -1,19 +1,19 @@
 -- What has a place, by the tests that counting makes: slots and codes, statics and loaders, and the sums of an object and of a class. Assumes nothing.
-use mathlib.Core.Path.{_≡_, refl, sym, ap, _∙_}
-use mathlib.Core.Bool.{Bool, true, false, cond, not}
+use mathlib.Core.Path.{_≡_, sym, ap, _∙_}
+use mathlib.Core.Bool.{Bool, true, false, not}
 use mathlib.Core.List.{List, [], _∷_}
 use mathlib.Core.Option.{none, some}
-use Prim.Native.Nat.{ℕ, zero, suc, _+_, _-_, _≤_, _<_, zero-le}
+use Prim.Native.Nat.{ℕ, _+_, _-_, _≤_, _<_}
 use native.Mathlib.Omega.{arith}
 use borrow.Author.Tests.{lt-ltb, le-ltb, eq-eqb, ne-eqb}
-use lib.Dec.{eqb, ltb}
+use lib.Dec.{eqb}
 use lib.ListN.{length}
 use Rattle.columns.specs.Lists.{_!_, one, total, find, allOf, anyOf}
+use Rattle.columns.proofs.Counts.{ones-few}
 use Rattle.rules.specs.declared.ReferencePolicy.{ReferencePolicy}
 use Rattle.rules.specs.Types.{keeps}
 use Rattle.check_tables.specs.Found.{placeFor}
 use Rattle.check_tables.specs.Spans.{partOf}
-use Rattle.check_tables.proofs.Laws.{one-small}
 use Rattle.check_tables.proofs.Even.{two-first, two-second, two-none}
 use Rattle.check_tables.proofs.Parted.{part-array, slots-some}
 use Rattle.check_places.specs.Placing.{slotHeld, slotAt, codeAt, objectPlaces, isHeld, staticHeld, staticAt, classPlaces, Stands}
@@ -94,13 +94,9 @@ module _ (every : Bool) (ids : List ℕ) (type value : ℕ) where
   unfolding staticHeld allOf
   static-other h = rw (ne-eqb type 2 h)
 
-ones-small : (t : ℕ → Bool) (n : ℕ) → total (λ k. one (t k)) n ≤ n
-ones-small t zero = zero-le
-ones-small t (suc n) = omega (arith, ones-small t n, one-small (t n))
-
 pub statics-small : (every : Bool) (ids types values : List ℕ) (from to : ℕ) → total (staticAt every ids types values from) (to - from) ≤ to
 statics-small every ids types values from to =
-    omega (arith, ones-small (λ k. staticHeld every ids (types ! (from + k)) (values ! (from + k))) (to - from))
+    omega (arith, ones-few (λ k. staticHeld every ids (types ! (from + k)) (values ! (from + k))) (to - from))
 
 -- a class, by whether it is found
 module _ (every : Bool) (ids classIds loaders dumped staticStart staticEnd types values : List ℕ) (c : ℕ) {o : ℕ} (eo : o ≡ placeFor ids (classIds ! c) (dumped ! c)) where

@@ -1,16 +1,16 @@
 -- The places that each route counts over the columns are those of document 01. Assumes nothing.
-use mathlib.Core.Path.{_≡_, refl, sym, ap, ap₂, _∙_}
+use mathlib.Core.Path.{_≡_, refl, ap, ap₂, _∙_}
 use mathlib.Core.Bool.{Bool, true, false, cond, not, _&&_, _||_, false≢true}
 use mathlib.Core.List.{List, [], _∷_}
-use Prim.Native.Nat.{ℕ, zero, suc, _+_, _-_, _*_, _^_, _≤_, _<_, zero-le}
+use Prim.Native.Nat.{ℕ, zero, suc, _+_, _-_, _*_, _^_, _≤_, _<_}
 use native.Mathlib.Omega.{arith}
-use borrow.Author.Tests.{eqb-true, eq-eqb, not-false}
+use borrow.Author.Tests.{eqb-true, not-false}
 use lib.Dec.{eqb, leb, ltb}
 use lib.ListN.{length}
-use Rattle.columns.specs.Lists.{_!_, leading, total, one, allOf, anyOf}
+use Rattle.columns.specs.Lists.{_!_, total, one, allOf, anyOf}
 use Rattle.columns.specs.Columns.{accepts}
 use Rattle.columns.specs.Ranks.{Rises, bisect}
-use Rattle.columns.proofs.Sums.{total-ext}
+use Rattle.columns.proofs.Sums.{total-ext, leading-within, leading-all}
 use Rattle.columns.proofs.Tests.{none-of}
 use Rattle.index.specs.Copied.{Ids, ESCAPED, readBack, escapeBack, whole}
 use Rattle.rules.specs.Types.{keeps}
@@ -21,18 +21,6 @@ use Rattle.rules.specs.Places.{hasPlace, unread, placeCount}
 use Rattle.check_tables.specs.Spans.{partOf, slotsOf}
 use Rattle.check_places.specs.Placing.{slotHeld, slotAt, codeAt, objectPlaces, classPlaces, rawPlaces, copiedPlaces}
 use Rattle.check_places.proofs.Placed.{everyOne, own, placed, all-placed}
-
-leading-within : (t : ℕ → Bool) (n : ℕ) → leading t n ≤ n
-leading-within t zero = zero-le
-leading-within t (suc n) = go (eqb (leading t n) n && t n) (leading-within t n)
-  where
-    go : (b : Bool) → leading t n ≤ n → cond b (suc n) (leading t n) ≤ suc n
-    go true l = omega arith
-    go false l = omega arith
-
-leading-all : (t : ℕ → Bool) (n : ℕ) → ((k : ℕ) → t k ≡ true) → leading t n ≡ n
-leading-all t zero h = refl
-leading-all t (suc n) h = rw (leading-all t n h, h n, eq-eqb n n refl)
 
 total-ones : (f : ℕ → ℕ) (n : ℕ) → ((k : ℕ) → f k ≡ 1) → total f n ≡ n
 total-ones f zero h = refl

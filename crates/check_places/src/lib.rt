@@ -5,7 +5,7 @@ ghost use lib.ListN.{length};
 ghost use Rattle.columns.specs.Lists.{total};
 ghost use Rattle.check_tables.specs.Copying.{heldCodes};
 ghost use Rattle.check_places.specs.Placing.{partAt, PartTables, ClassTables, CodeTables, rawPlaces, copiedPlaces};
-ghost use Rattle.build_rooms.specs.Stages.{Fits};
+ghost use Rattle.rules.specs.Needs.{Fits};
 use check_tables::spans;
 use rules::ReferencePolicy;
 

@@ -13,12 +13,12 @@ use lib.ListN.{length, take}
 use Rattle.columns.specs.Lists.{_!_, one, total, anyOf}
 use Rattle.columns.specs.Ranks.{Rises, rank}
 use Rattle.columns.proofs.Lists.{lt-or-ge, first-none}
-use Rattle.columns.proofs.Ranks.{rank-zero, rank-is, rank-next-hit, rank-next-miss}
+use Rattle.columns.proofs.Ranks.{rank-zero, rank-is, rank-next-hit, rank-next-miss, past-end}
 use Rattle.columns.proofs.Tests.{none-of, each-of, no-places}
+use Rattle.columns.proofs.Sums.{total-more, total-end, one-few}
 use Rattle.index.specs.Copied.{Ids, ESCAPED}
 use Rattle.rules.specs.Verdict.{badCode, badEscape}
 use Rattle.check_tables.proofs.Even.{two-none}
-use Rattle.check_tables.proofs.Laws.{past-end, total-more, total-end, one-small}
 use Rattle.check_tables.proofs.Walking.{row-within, row-place, row-other, code-fault}
 use Rattle.check_tables.specs.Copying.{hasRow, escapeId, codeFault, walkFaults, escapedCodes, escapeFault, baseFault, isClean}
 
@@ -32,7 +32,7 @@ module _ (t : ℕ → Bool) where
   counted-start = record { sum = refl; small = zero-le }
 
   pub counted-more : {i s v : ℕ} → Counted t i s → v ≡ one (t i) → Counted t (i + 1) (s + v)
-  counted-more {i} {s} {v} c e = record { sum = total-more (λ k. one (t k)) i (c .sum) e; small = omega (arith, c .small, one-small (t i)) }
+  counted-more {i} {s} {v} c e = record { sum = total-more (λ k. one (t k)) i (c .sum) e; small = omega (arith, c .small, one-few (t i)) }
 
   pub counted-end : {n i s : ℕ} → Counted t i s → i ≤ n → n ≤ i → s ≡ total (λ k. one (t k)) n
   counted-end c l m = total-end (λ k. one (t k)) (c .sum) l m

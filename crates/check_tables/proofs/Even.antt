@@ -1,9 +1,14 @@
 -- Tests put together, and what lengths that do not differ give. Assumes nothing.
-use mathlib.Core.Path.{_≡_, refl, sym}
-use mathlib.Core.Bool.{Bool, true, false, _||_}
-use mathlib.Core.List.{List, [], _∷_}
+use mathlib.Core.Path.{_≡_, refl, sym, _∙_}
+use mathlib.Core.Bool.{Bool, true, false}
+use mathlib.Core.List.{[], _∷_}
 use Rattle.columns.specs.Lists.{anyOf}
+use lib.ListN.{length}
 use Rattle.columns.proofs.Tests.{or-true}
+use Rattle.rules.specs.Input.{Schema, classCount}
+use Rattle.rules.specs.Verdict.{schemaLengths}
+use Rattle.rules.proofs.Even.{schema-even}
+use Rattle.check_tables.specs.Reads.{Tables}
 
 module _ (a b c d : Bool) where
   pub some-first : a ≡ true → true ≡ anyOf (a ∷ b ∷ c ∷ d ∷ [])
@@ -74,3 +79,23 @@ module _ (a b : Bool) where
   pub two-none : a ≡ false → b ≡ false → false ≡ anyOf (a ∷ b ∷ [])
   unfolding anyOf
   two-none ha hb = rw (ha, hb)
+
+-- the columns that the class check reads, of a schema whose lengths do not differ
+module _ (s : Schema) (h : schemaLengths s ≡ false) where
+  pub schema-dumped : length (s .classes .dumped) ≡ classCount s
+  schema-dumped = schema-even s h .dumped
+
+  pub schema-tables : Tables (s .classes .dumped) (s .classes .kinds) (s .classes .slotStart) (s .classes .slotEnd) (s .classes .staticStart) (s .classes .staticEnd)
+      (s .slots .offsets) (s .slots .labels) (s .slots .weak) (s .statics .names) (s .statics .types)
+  schema-tables =
+      let e = schema-even s h in
+      record {
+        kinds-long = e .kinds ∙ sym (e .dumped);
+        slot-starts-long = e .slot-starts ∙ sym (e .dumped);
+        slot-ends-long = e .slot-ends ∙ sym (e .dumped);
+        static-starts-long = e .static-starts ∙ sym (e .dumped);
+        static-ends-long = e .static-ends ∙ sym (e .dumped);
+        labels-long = e .slot-labels;
+        weak-long = e .slot-weak;
+        types-long = e .static-types;
+      }

@@ -1,9 +1,9 @@
 -- The faults of document 01 as the checks test them. Assumes nothing.
 use mathlib.Core.Path.{_≡_, refl, sym, ap, _∙_}
 use mathlib.Core.Logic.{⊎-elim}
-use mathlib.Core.Bool.{Bool, true, false, _||_, _&&_}
+use mathlib.Core.Bool.{Bool, true, false, _||_}
 use mathlib.Core.List.{List, [], _∷_, _++_}
-use Prim.Native.Nat.{ℕ, zero, suc, pred, _+_, _-_, _≤_, _<_, zero-le}
+use Prim.Native.Nat.{ℕ, zero, suc, pred, _+_, _-_, _≤_, zero-le}
 use native.Mathlib.Numerals.{add-one}
 use native.Mathlib.Omega.{arith}
 use borrow.Author.Tests.{lt-ltb, le-ltb, ltb-false, ne-eqb, le-leb, lt-leb, eqb-true}
@@ -11,7 +11,7 @@ use lib.Dec.{eqb, leb, ltb}
 use lib.ListN.{length}
 use Rattle.columns.specs.Lists.{_!_, allOf, anyOf, any}
 use Rattle.columns.proofs.Lists.{lt-or-ge}
-use Rattle.columns.proofs.Tests.{none-of}
+use Rattle.columns.proofs.Tests.{none-of, and-true}
 use Rattle.rules.specs.Input.{Schema, slotTotal, slotPlace, staticTotal}
 use Rattle.rules.specs.Verdict.{badObject, falls, badSlot, badStatic, badClass}
 use Rattle.check_tables.specs.Reads.{objectColumns, objectFault, rowFault, slotFault, staticFault, staticAt}
@@ -23,10 +23,6 @@ prior ids (suc o) = ids ! o
 
 pub prior-more : (ids : List ℕ) (o : ℕ) → ids ! o ≡ prior ids (o + 1)
 prior-more ids o = rw add-one
-
-and-true : (b : Bool) → b && true ≡ b
-and-true true = refl
-and-true false = refl
 
 zero-or : (id before : ℕ) (rest : Bool) → eqb id 0 || (leb id before || rest) ≡ leb id before || rest
 zero-or id before rest = go (eqb id 0) refl

@@ -1,35 +1,26 @@
 -- Dumped classes found among objects whose ids rise: where, which are at fault, and the marks that a walk over the classes leaves. Assumes nothing.
 use mathlib.Core.Path.{_≡_, refl, sym, ap, _∙_}
-use mathlib.Core.Logic.{_⊎_, inl, inr, ⊎-elim}
-use mathlib.Core.Bool.{Bool, true, false, cond, _||_, _&&_}
+use mathlib.Core.Logic.{_⊎_, ⊎-elim}
+use mathlib.Core.Bool.{Bool, true, false, cond, _||_}
 use mathlib.Core.List.{List, [], _∷_}
 use mathlib.Core.Option.{Option, none, some}
 use Prim.Native.Nat.{ℕ, zero, suc, _+_, _≤_, _<_}
 use native.Mathlib.Numerals.{add-one}
 use native.Mathlib.Omega.{arith}
-use native.Mathlib.Decide.{decLt}
-use borrow.Author.Tests.{lt-ltb, le-ltb, eq-eqb, ne-eqb, eqb-true, eqb-false}
+use borrow.Author.Tests.{lt-ltb, le-ltb, eq-eqb, ne-eqb, eqb-true}
 use lib.Dec.{eqb, ltb}
-use lib.ListN.{length, set, length-set, replicate, length-replicate}
+use lib.ListN.{length, set, length-set, length-replicate}
 use lib.Seq.{getD-set-same, getD-set-other, ext-getD}
 use Rattle.columns.specs.Lists.{_!_, any, find, orElse, allOf, anyOf}
 use Rattle.columns.specs.Columns.{zeros}
 use Rattle.columns.specs.Ranks.{Rises}
-use Rattle.columns.proofs.Lists.{lt-or-ge, tab-length, tab-at}
+use Rattle.columns.proofs.Lists.{lt-or-ge, tab-length, tab-at, eq-or-ne}
 use Rattle.columns.proofs.Search.{find-get, find-at}
-use Rattle.columns.proofs.Tests.{each-of, or-true, all-fails}
+use Rattle.columns.proofs.Tests.{each-of, or-true, all-fails, or-none, and-true}
+use Rattle.columns.proofs.Written.{zero-at}
 use Rattle.rules.specs.Input.{Input, objectCount, foundAt}
 use Rattle.rules.specs.Verdict.{badFind, foundBadly}
 use Rattle.check_tables.specs.Found.{placeFor, findFault, markFault, marking, markTo, markAt, marks, marksIf, findColumns, dumpedAt, isDumped}
-
-or-none : (b : Bool) → b || false ≡ b
-or-none true = refl
-or-none false = refl
-
-replicate-zero : (m i : ℕ) → zeros m ! i ≡ 0
-replicate-zero zero i = refl
-replicate-zero (suc m) zero = refl
-replicate-zero (suc m) (suc i) = replicate-zero m i
 
 none-yet : (x : Input) (i : ℕ) → markAt x 0 i ≡ 0
 none-yet x zero = refl
@@ -38,13 +29,6 @@ none-yet x (suc o) = go (ltb o (objectCount x))
     go : (b : Bool) → _≡_ {A = ℕ} (cond b 0 0) 0
     go true = refl
     go false = refl
-
-same-or : (a b : ℕ) → (a ≡ b) ⊎ (a ≡ b → ⊥)
-same-or a b = go (eqb a b) refl
-  where
-    go : (t : Bool) → eqb a b ≡ t → (a ≡ b) ⊎ (a ≡ b → ⊥)
-    go true e = inl (eqb-true a b e)
-    go false e = inr (eqb-false a b e)
 
 -- where a class is found
 pub place-found : (ids : List ℕ) (id dumped o : ℕ) → dumped ≡ 1 → find ids id ≡ some o → o ≡ placeFor ids id dumped
@@ -120,10 +104,7 @@ pub record Marked (x : Input) (c m : ℕ) (w : List ℕ) : Type 0 where
 
 module _ (x : Input) (m : ℕ) where
   pub marked-start : (w : List ℕ) → w ≡ zeros m → Marked x 0 m w
-  marked-start w e = record { same = rw e (length-replicate m 0); at = λ i l. rw e (zero-at i) }
-    where
-      zero-at : (i : ℕ) → zeros m ! i ≡ markAt x 0 i
-      zero-at i = replicate-zero m i ∙ sym (none-yet x i)
+  marked-start w e = record { same = rw e (length-replicate m 0); at = λ i l. rw e (zero-at m i ∙ sym (none-yet x i)) }
 
   pub marked-end : {c : ℕ} {w : List ℕ} → Marked x c m w → w ≡ marks x c m
   unfolding marks
@@ -144,7 +125,7 @@ module _ (x : Input) (m : ℕ) where
         later (suc o) = ⊎-elim (λ g. more (suc o) (λ e. omega arith)) (λ g. rw (le-ltb o (objectCount x) g)) (lt-or-ge o (objectCount x))
 
     pub marked-hit : place x c < objectCount x → objectCount x < m → Marked x (c + 1) m (set w (place x c + 1) (c + 1))
-    marked-hit l k = record { same = length-set w _ _ ∙ h .same; at = λ i q. ⊎-elim (here i q) (λ n. getD-set-other w _ i _ 0 n ∙ h .at i q ∙ sym (more i n)) (same-or i (place x c + 1)) }
+    marked-hit l k = record { same = length-set w _ _ ∙ h .same; at = λ i q. ⊎-elim (here i q) (λ n. getD-set-other w _ i _ 0 n ∙ h .at i q ∙ sym (more i n)) (eq-or-ne i (place x c + 1)) }
       where
         here : (i : ℕ) → i < m → i ≡ place x c + 1 → set w (place x c + 1) (c + 1) ! i ≡ markAt x (c + 1) i
         here i q e = rw e (getD-set-same w (place x c + 1) (c + 1) 0 (omega (arith, h .same)) ∙ rw (add-one (place x c), lt-ltb (place x c) (objectCount x) l, add-one c, found-there x c l))
@@ -182,11 +163,7 @@ module _ (x : Input) (m : ℕ) where
 pub find-test : (ids kinds classIds dumped : List ℕ) (o c : ℕ) {r : Bool} → o < length ids → 3 ≤ kinds ! o → r ≡ any (dumpedAt classIds dumped (ids ! o)) c
     → r ≡ findFault (findColumns ids kinds classIds dumped) o c
 unfolding findFault foundAt isDumped allOf anyOf
-find-test ids kinds classIds dumped o c l k e = rw (lt-ltb o (length ids) l, le-ltb (kinds ! o) 3 k, e) (sym (and-or (any (dumpedAt classIds dumped (ids ! o)) c)))
-  where
-    and-or : (b : Bool) → (b || false) && true ≡ b
-    and-or true = refl
-    and-or false = refl
+find-test ids kinds classIds dumped o c l k e = rw (lt-ltb o (length ids) l, le-ltb (kinds ! o) 3 k, e) (sym (and-true _ ∙ or-none (any (dumpedAt classIds dumped (ids ! o)) c)))
 
 pub marks-same : (x : Input) (c m : ℕ) {w : List ℕ} → w ≡ marks x c m → length w ≡ m
 unfolding marks

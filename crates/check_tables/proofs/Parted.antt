@@ -1,15 +1,15 @@
 -- The faults of the objects' parts as the checks test them. Assumes nothing.
 use mathlib.Core.Path.{_≡_, refl, _∙_}
 use mathlib.Core.List.{List, []}
-use Prim.Native.Nat.{ℕ, _+_, _-_, _≤_, zero-le}
+use Prim.Native.Nat.{ℕ, _-_, _≤_, zero-le}
 use native.Mathlib.Omega.{arith}
 use borrow.Author.Tests.{eq-eqb, ne-eqb}
 use lib.ListN.{length}
 use Rattle.columns.specs.Lists.{_!_}
+use Rattle.columns.proofs.Ranks.{past-end}
 use Rattle.rules.specs.Input.{slotCount, elementCount}
 use Rattle.rules.specs.Verdict.{badSpan, badPart}
 use Rattle.check_tables.specs.Spans.{slotsOf, partOf, copiedSpanFault, rawSpanFault, copiedSpans, rawSpans}
-use Rattle.check_tables.proofs.Laws.{past-end}
 
 pub copied-span-fault : (kinds classes lengths starts slotStart slotEnd codes : List ℕ) (o : ℕ)
     → badSpan (copiedSpans kinds classes lengths starts slotStart slotEnd codes) o

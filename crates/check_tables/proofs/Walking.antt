@@ -1,25 +1,24 @@
 -- The walk along codes and escapes: what a row tells, what each position keeps, and where it ends. Assumes nothing.
-use mathlib.Core.Path.{_≡_, refl, sym, ap, _∙_}
+use mathlib.Core.Path.{_≡_, refl, sym, _∙_}
 use mathlib.Core.Logic.{⊎-elim}
-use mathlib.Core.Bool.{Bool, true, false, cond, not, false≢true}
+use mathlib.Core.Bool.{Bool, true, false, cond, not}
 use mathlib.Core.List.{List, [], _∷_, _++_, append-assoc}
-use Prim.Native.Nat.{ℕ, zero, suc, _+_, _-_, _*_, _^_, _≤_, _<_, zero-le}
+use Prim.Native.Nat.{ℕ, _+_, _-_, _*_, _^_, _≤_, _<_, zero-le}
 use native.Mathlib.Nat.{add-zero}
 use native.Mathlib.Omega.{arith}
-use borrow.Author.Tests.{ltb-true, eqb-true, eqb-false, lt-ltb, eq-eqb, ne-eqb, lt-leb, leb-false}
+use borrow.Author.Tests.{ltb-true, eqb-true, eqb-false, lt-ltb, ne-eqb, lt-leb}
 use lib.Dec.{eqb, leb, ltb}
 use lib.ListN.{length, take, getD}
 use Rattle.columns.specs.Lists.{_!_, places, firstPlace, one, allOf, anyOf}
 use Rattle.columns.specs.Columns.{accepts}
-use Rattle.columns.specs.Ranks.{Rises, rank, bisect}
+use Rattle.columns.specs.Ranks.{Rises, rank}
 use Rattle.columns.proofs.Lists.{lt-or-ge, places-at, first-none}
-use Rattle.columns.proofs.Ranks.{bisect-rank, rank-zero, rank-within, rank-above, rank-next-hit, rank-next-miss}
+use Rattle.columns.proofs.Ranks.{bisect-rank, rank-zero, rank-above, rank-next-hit, rank-next-miss, past-end}
 use Rattle.columns.proofs.First.{Searching, searching-start, searching-more}
 use Rattle.columns.proofs.Tests.{each-of, second-fails, no-places}
 use Rattle.index.specs.Copied.{Ids, ESCAPED, readBack, escapeBack, whole}
 use Rattle.rules.specs.Input.{Route.copied}
 use Rattle.rules.specs.Verdict.{falls, badCode, badEscape, badCopied}
-use Rattle.check_tables.proofs.Laws.{past-end}
 use Rattle.check_tables.specs.Copying.{hasRow, escapeId, codeFault, goodOn, walkFaults}
 
 -- a row that is there is inside, and its place is the position; one that is not there is outside or has another place

@@ -2,8 +2,8 @@
 ghost use mathlib.Core.Path.{_≡_};
 ghost use mathlib.Core.List.{[], _∷_};
 ghost use lib.ListN.{length};
-ghost use Rattle.rules.specs.Verdict.{differs, schemaLengths, badSize};
-ghost use Rattle.check_tables.specs.Lengths.{schemaOf, limits, sizeOnly};
+ghost use Rattle.rules.specs.Verdict.{differs, schemaLengths, badSize, limits};
+ghost use Rattle.check_tables.specs.Lengths.{schemaOf, sizeOnly};
 
 pub fn differ(n: usize, a: usize) -> bool
     ensures { λ r. ⌜ r ≡ differs n (a ∷ []) ⌝ }

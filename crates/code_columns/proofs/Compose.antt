@@ -10,8 +10,8 @@ use lib.Dec.{ltb}
 use lib.ListN.{length, set, take, drop, length-take, length-map, take-append-drop}
 use lib.Seq.{take-length}
 use Rattle.columns.specs.Lists.{_!_, anyOf}
-use Rattle.columns.specs.Columns.{zeros, accepts, over, cleared, padded, leaves}
-use Rattle.columns.proofs.Written.{cleared-all, cleared-over, leaves-zeros, leaves-padded}
+use Rattle.columns.specs.Columns.{zeros, accepts, over, cleared, padded, leaves, Begins}
+use Rattle.columns.proofs.Written.{cleared-all, cleared-over, leaves-zeros, leaves-padded, begins-over}
 use Rattle.columns.proofs.Answers.{past}
 use Rattle.columns.proofs.Tests.{none-of}
 use borrow.Author.Tests.{ltb-false}
@@ -21,7 +21,7 @@ use Rattle.rules.specs.Input.{Schema, classCount}
 use Rattle.rules.specs.Edges.{Parts}
 use Rattle.rules.specs.Labels.{named, fieldsOf, codeTable, codesFor, coded}
 use Rattle.rules.specs.Needs.{Lent, fieldsFor, labelColumns, needLong, needFields, needEscapes, shortLater, shortOfParts}
-use Rattle.rules.specs.Verdict.{firstOf, at, counts}
+use Rattle.rules.specs.Verdict.{firstOf, at, counts, plainCounts}
 use Rattle.rules.specs.Built.{codedLeft}
 use Rattle.rules.proofs.Acceptance.{refuse-at}
 use Rattle.labels.specs.Coding.{LaidOut, TableOf, Laid, escapesIn}
@@ -29,11 +29,11 @@ use Rattle.labels.specs.Fields.{Naming, namedBy}
 use Rattle.labels.proofs.Table.{table-length}
 use Rattle.labels.proofs.Codes.{all-length, all-coded, escapes-coded}
 use Rattle.labels.proofs.Listed.{named-by, fields-named}
-use Rattle.code_stages.specs.Stages.{handOn, labelRoom, spaceShort, Where, Begins, Ready, OffsetsReady, NamesReady, fieldsBy, escapesOf}
+use Rattle.code_stages.specs.Stages.{handOn, labelRoom, spaceShort, Where, Ready, OffsetsReady, NamesReady, fieldsBy, escapesOf}
 use Rattle.code_stages.specs.Stages.{offsetsSays, OffsetsCoded, fieldsSays, spaceSays, FieldsWritten, codesSays, codesAll, CodesCoded}
 use Rattle.code_stages.specs.Settling.{leftOf, usedTo, Settled}
-use Rattle.code_columns.specs.Finished.{Coding, plainCounts, Hands, Finished}
-use Rattle.code_stages.proofs.Laws.{short-none, on-true, on-false, on-accepts, begins-over, refused-never, label-refuses}
+use Rattle.code_columns.specs.Finished.{Coding, Hands, Finished}
+use Rattle.code_stages.proofs.Laws.{short-none, on-true, on-false, on-accepts, refused-never, label-refuses}
 
 -- What each stage needs, of what the checks have found.
 pub ready-offsets : {g : Naming} {classes names : ℕ} {offsets labels : List ℕ} → Ready g classes names offsets labels → OffsetsReady offsets

@@ -16,9 +16,9 @@ use Rattle.rules.specs.Types.{LOADER, ARRAY-ELEMENT}
 use Rattle.rules.specs.Input.{Schema, classCount}
 use Rattle.rules.specs.Edges.{Parts}
 use Rattle.rules.specs.Needs.{objectsOf}
-use Rattle.rules.specs.Verdict.{schemaLengths, overLimit, badClass}
+use Rattle.rules.specs.Verdict.{schemaLengths, limits, overLimit, badClass}
+use Rattle.rules.specs.Labels.{own}
 use Rattle.rules.proofs.Meets.{Meets, isNamed}
-use Rattle.labels.specs.Coding.{own}
 use Rattle.labels.specs.Fields.{Ranges}
 use Rattle.need_escapes.specs.Uncoded.{Labelled}
 use Rattle.code_stages.specs.Stages.{Ready}
@@ -80,11 +80,11 @@ ready-labels names p law e h =
 pub ready-parts : (s : Schema) (p : Parts) → schemaLengths s ≡ false → overLimit (objectsOf p) s ≡ false
     → ((c : ℕ) → c < classCount s → badClass s c ≡ false) → length (p .labels) ≤ 268435456 → Meets (s .names) p
     → Ready (namingOf s) (classCount s) (s .names) (p .offsets) (p .labels)
-unfolding overLimit
-ready-parts s p lengths limits class few law = record {
+unfolding overLimit limits
+ready-parts s p lengths within class few law = record {
   ranges = ready-ranges s lengths class;
-  few-names = ltb-false _ _ (none-of _ limits 1);
-  few-offsets = omega (arith, ltb-false 67108864 (objectsOf p) (none-of _ (none-of _ limits 0) 0));
+  few-names = ltb-false _ _ (none-of _ within 1);
+  few-offsets = omega (arith, ltb-false 67108864 (objectsOf p) (none-of _ (none-of _ within 0) 0));
   few-labels = few;
   laid = record { some = law .some; starts = law .starts; rises = λ o h. law .rises o (omega arith); ends = law .ends };
   known = ready-labels (s .names) p law;

@@ -1,12 +1,11 @@
 -- What coding answers and leaves in the eleven columns that it is lent, over the schema and the plain columns that it is handed. Assumes nothing.
 use Prim.Native.Nat.{ℕ}
 use mathlib.Core.Path.{_≡_}
-use mathlib.Core.List.{List, [], _∷_}
-use lib.ListN.{length}
+use mathlib.Core.List.{List, []}
 use Rattle.rules.specs.Input.{Schema, classCount}
 use Rattle.rules.specs.Edges.{Parts}
 use Rattle.rules.specs.Needs.{Lent, shortOfParts}
-use Rattle.rules.specs.Verdict.{firstOf, at, counts}
+use Rattle.rules.specs.Verdict.{firstOf, at, counts, plainCounts}
 use Rattle.rules.specs.Built.{CodedLeft, codedLeft}
 use Rattle.labels.specs.Fields.{Naming, naming}
 use Rattle.code_stages.specs.Stages.{handOn, Where}
@@ -27,10 +26,6 @@ lentOf b s a v f t ea el c u k = record {
   counting = u;
   ranking = k;
 }
-
--- an answer that accepts with nothing coded yet
-abbrev pub plainCounts : Parts → List ℕ
-plainCounts p = 0 ∷ length (p .targets) ∷ length (p .weakFrom) ∷ length (p .roots) ∷ 0 ∷ 0 ∷ 0 ∷ p .dangling ∷ []
 
 abbrev pub namingOf : Schema → Naming
 namingOf s =

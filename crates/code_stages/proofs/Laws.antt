@@ -2,16 +2,16 @@
 use Prim.Native.Nat.{ℕ, _+_, _-_, _*_, _/_, _≤_, _<_}
 use native.Mathlib.Omega.{arith}
 use mathlib.Core.Path.{_≡_, refl, sym, ap, _∙_}
-use mathlib.Core.Bool.{Bool, true, false, cond, _||_, true≢false}
+use mathlib.Core.Bool.{Bool, true, false, cond, true≢false}
 use mathlib.Core.List.{List, [], _∷_}
 use lib.Dec.{ltb}
-use lib.ListN.{length, set, getD, take, drop}
+use lib.ListN.{length, set, getD, take}
 use borrow.Author.Tests.{lt-ltb, le-ltb, ltb-false}
-use lib.Seq.{take-at}
 use Rattle.columns.specs.Lists.{_!_, anyOf}
 use Rattle.columns.specs.Columns.{accepts, over, leaves}
 use Rattle.columns.proofs.Parts.{never-falls}
-use Rattle.columns.proofs.Tests.{no-places, none-of}
+use Rattle.columns.proofs.Tests.{no-places, none-of, or-none, some-of}
+use Rattle.columns.proofs.Written.{begins-over}
 use Rattle.store.specs.declared.CodedOffsets.{CodedOffsets}
 use Rattle.store.specs.Blocked.{codedSays, codingSays, Coding, isLow, firstLow, blocksOf, longRows}
 use Rattle.rules.specs.declared.Refusal.{Refusal}
@@ -24,7 +24,7 @@ use Rattle.labels.specs.Coding.{LaidOut, escapesIn, escapedTo, Escapes}
 use Rattle.labels.proofs.Codes.{escaped-in, codes-laid}
 use Rattle.labels.proofs.Escapes.{escapes-places}
 use Rattle.code_stages.specs.Stages.{handOn, unlessShort, labelRoom, spaceShort, OffsetsReady, offsetsSays, OffsetsCoded, fieldsSays, spaceSays, codesSays}
-use Rattle.code_stages.specs.Stages.{codesAll, CodesCoded, Begins, FieldsWritten, escapesOf}
+use Rattle.code_stages.specs.Stages.{codesAll, CodesCoded, FieldsWritten, escapesOf}
 use Rattle.rules.specs.Labels.{codeTable, coded}
 use Rattle.labels.specs.Fields.{Chosen}
 use Rattle.code_stages.specs.Settling.{usedTo}
@@ -36,19 +36,10 @@ short-first need a b h = rw (lt-ltb a need h)
 
 pub short-second : (need a b : ℕ) → need ≤ a → anyOf (ltb a need ∷ ltb b need ∷ []) ≡ ltb b need
 unfolding anyOf
-short-second need a b h = rw (le-ltb a need h) (last (ltb b need))
-  where
-    last : (t : Bool) → t || false ≡ t
-    last true = refl
-    last false = refl
+short-second need a b h = rw (le-ltb a need h) (or-none (ltb b need))
 
 pub short-none : (need a b : ℕ) → anyOf (ltb a need ∷ ltb b need ∷ []) ≡ false → (need ≤ a) × (need ≤ b)
 short-none need a b e = (ltb-false a need (none-of _ e 0), ltb-false b need (none-of _ e 1))
-
-any-second : (a b : Bool) → b ≡ true → anyOf (a ∷ b ∷ []) ≡ true
-unfolding anyOf
-any-second true b h = refl
-any-second false b h = rw h
 
 any-none : (a b : Bool) → a ≡ false → b ≡ false → anyOf (a ∷ b ∷ []) ≡ false
 unfolding anyOf
@@ -160,7 +151,7 @@ module _ (before : List ℕ) (need names nf nt : ℕ) where
   module _ (y : accepts before ≡ true) {says : List ℕ} where
     pub fields-short-table : nt < names + 2 → says ≡ 9 ∷ 6 ∷ [] → says ≡ fieldsSays before need names nf nt
     unfolding fieldsSays
-    fields-short-table h e = e ∙ sym (on-true before _ y ∙ rw (any-second (ltb nf need) (ltb nt (names + 2)) (lt-ltb nt (names + 2) h)))
+    fields-short-table h e = e ∙ sym (on-true before _ y ∙ rw (some-of (ltb nf need ∷ ltb nt (names + 2) ∷ []) 1 (lt-ltb nt (names + 2) h)))
 
     pub fields-short : nf < need → says ≡ 9 ∷ 6 ∷ [] → says ≡ fieldsSays before need names nf nt
     unfolding fieldsSays anyOf
@@ -169,11 +160,6 @@ module _ (before : List ℕ) (need names nf nt : ℕ) where
     pub fields-fit : names + 2 ≤ nt → need ≤ nf → says ≡ set before 5 need → says ≡ fieldsSays before need names nf nt
     unfolding fieldsSays
     fields-fit h g e = e ∙ sym (on-true before _ y ∙ rw (any-none (ltb nf need) (ltb nt (names + 2)) (le-ltb nf need g) (le-ltb nt (names + 2) h)))
-
--- a column that is written over begins with what was written
-pub begins-over : (xs d : List ℕ) {e : List ℕ} → e ≡ over xs d → Begins xs e
-unfolding over
-begins-over xs d h = ap (take (length xs)) h ∙ take-at xs (drop (length xs) d) (length xs) refl
 
 -- the fields that were chosen, and the table of them
 pub chosen-front : {fields f₀ f : List ℕ} {r : ℕ} → Chosen fields f₀ r f → take r f ≡ fields

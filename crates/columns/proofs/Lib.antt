@@ -1,6 +1,7 @@
 pub mod Lists
 pub mod Tests
 pub mod Sums
+pub mod Counts
 pub mod Every
 pub mod Parts
 pub mod Ranks

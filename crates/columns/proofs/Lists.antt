@@ -17,6 +17,12 @@ lt-or-ge a zero = inr zero-le
 lt-or-ge zero (suc b) = inl (suc-le-suc zero-le)
 lt-or-ge (suc a) (suc b) = ⊎-elim (λ l. inl (suc-le-suc l)) (λ l. inr (suc-le-suc l)) (lt-or-ge a b)
 
+pub eq-or-ne : (a b : ℕ) → (a ≡ b) ⊎ (a ≡ b → ⊥)
+eq-or-ne zero zero = inl refl
+eq-or-ne zero (suc b) = inr (λ e. omega arith)
+eq-or-ne (suc a) zero = inr (λ e. omega arith)
+eq-or-ne (suc a) (suc b) = ⊎-elim (λ e. inl (ap suc e)) (λ n. inr (λ e. n (omega arith))) (eq-or-ne a b)
+
 pub map-at : {A : Type 0} (f : A → ℕ) (d : A) (l : List A) (k : ℕ) → k < length l → map f l ! k ≡ f (getD l k d)
 map-at f d [] k h = absurd (not-suc-le-zero h)
 map-at f d (x ∷ l) zero h = refl

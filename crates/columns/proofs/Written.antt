@@ -9,7 +9,7 @@ use native.Mathlib.Omega.{arith}
 use lib.ListN.{length, set, take, drop, replicate, length-append, length-take, length-drop, length-set, length-replicate, replicate-append-replicate, take-append-drop, drop-of-length-le}
 use lib.Seq.{drop-cons, set-at, append-snoc, drop-length, take-at, length-take-le}
 use Rattle.columns.specs.Lists.{_!_, tab, places}
-use Rattle.columns.specs.Columns.{zeros, over, cleared, padded, accepts, leaves}
+use Rattle.columns.specs.Columns.{zeros, over, cleared, padded, accepts, leaves, Begins}
 use Rattle.columns.proofs.Lists.{tab-more, places-hit, places-miss}
 
 -- a column that is written from the front: d₀ with xs, of length k, over it
@@ -130,6 +130,14 @@ module _ (says xs : List ℕ) where
   pub used-length : (c : List ℕ) (m : ℕ) → accepts says ≡ true → c ≡ leaves says xs m → length xs ≤ length c
   unfolding padded over
   used-length c m y e = omega (arith, ap length (left c m y e), length-append xs (drop (length xs) (zeros m)))
+
+-- what was written over the front of a column stands there
+pub over-front : (xs d : List ℕ) (n : ℕ) → length xs ≡ n → take n (over xs d) ≡ xs
+unfolding over
+over-front xs d n e = take-at xs (drop (length xs) d) n e
+
+pub begins-over : (xs d : List ℕ) {e : List ℕ} → e ≡ over xs d → Begins xs e
+begins-over xs d h = ap (take (length xs)) h ∙ over-front xs d (length xs) refl
 
 -- a column that was cleared whole
 pub zeroed : (d : List ℕ) {w : List ℕ} → w ≡ cleared 0 d → w ≡ zeros (length d)

@@ -1,14 +1,14 @@
 -- Appending goes on where it ended, and room for a whole list is room for each part of it. Assumes nothing.
-use Prim.Native.Nat.{ℕ, zero, suc, _+_, _-_, _<_}
-use native.Mathlib.Nat.{add-zero, add-suc}
+use Prim.Native.Nat.{ℕ, suc, _+_, _-_, _<_}
+use native.Mathlib.Nat.{add-zero}
 use native.Mathlib.Numerals.{add-one}
 use native.Mathlib.Omega.{arith}
 use mathlib.Core.Path.{_≡_, refl, sym, ap, _∙_}
-use mathlib.Core.List.{List, [], _∷_, _++_, map, append-nil, append-assoc}
+use mathlib.Core.List.{List, [], _∷_, _++_, map}
 use lib.ListN.{length, length-append, length-map, set}
 use lib.Seq.{sets, length-sets}
 use Rattle.columns.specs.Lists.{collect, tab}
-use Rattle.columns.proofs.Sums.{flat-append, map-append, sum-append}
+use Rattle.columns.proofs.Sums.{flat-append, map-append, sum-append, collect-cut}
 use Rattle.rules.specs.Edges.{Ref, refEdge, refWeak, refMissing}
 use Rattle.edge_append.specs.Append.{edgesIn, weakIn, missingIn, targetOf, labelOf, Room, Appended}
 use Rattle.edge_append.specs.declared.Pass.{Pass}
@@ -85,15 +85,6 @@ room-first {ids} {rs} qs m = record {
 
 -- The first k of n parts, and the next.
 module _ (f : ℕ → List Ref) where
-  behind : (k d : ℕ) → List Ref
-  behind k zero = []
-  behind k (suc d) = behind k d ++ f (k + d)
-
-  collect-cut : (k d : ℕ) → collect f (k + d) ≡ collect f k ++ behind k d
-  unfolding behind
-  collect-cut k zero = rw (add-zero k) (sym (append-nil (collect f k)))
-  collect-cut k (suc d) = rw (add-suc k d) (ap (λ (l : List Ref). l ++ f (k + d)) (collect-cut k d) ∙ append-assoc (collect f k) (behind k d) (f (k + d)))
-
   module _ {ids : List ℕ} {s q : Pass} {ts ls ws ts′ ls′ ws′ : List ℕ} (k : ℕ) (a : Appended ids (collect f k) s q ts ls ws ts′ ls′ ws′) where
     pub more-parts : {u : Pass} {ts″ ls″ ws″ : List ℕ} → Appended ids (f k) q u ts′ ls′ ws′ ts″ ls″ ws″ → Appended ids (collect f (k + 1)) s u ts ls ws ts″ ls″ ws″
     more-parts b = rw (add-one k) (appended-on a b)
@@ -101,7 +92,7 @@ module _ (f : ℕ → List Ref) where
     pub room-part : (n : ℕ) → k < n → Room ids (collect f n) s (length ts) (length ls) (length ws) → Room ids (f k) q (length ts′) (length ls′) (length ws′)
     room-part n h m =
         let e : n ≡ suc k + (n - suc k) = omega arith in
-        room-rest a (room-first (behind (suc k) (n - suc k)) (rw (← collect-cut (suc k) (n - suc k), ← e) m))
+        room-rest a (room-first (collect (λ i. f (suc k + i)) (n - suc k)) (rw (← collect-cut f (suc k) (n - suc k), ← e) m))
 
   pub parts-end : {ids : List ℕ} {s q : Pass} {ts ls ws ts′ ls′ ws′ : List ℕ} (k n : ℕ) → k ≡ n → Appended ids (collect f k) s q ts ls ws ts′ ls′ ws′ → Appended ids (collect f n) s q ts ls ws ts′ ls′ ws′
   parts-end k n e a = rw (← e) a

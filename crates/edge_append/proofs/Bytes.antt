@@ -11,6 +11,7 @@ use lib.Dec.{eqb}
 use lib.ListN.{length, drop, take, length-drop}
 use lib.Seq.{take-suc, getD-drop}
 use Rattle.columns.specs.Lists.{_!_, part, leading, tab}
+use Rattle.columns.proofs.Sums.{leading-within}
 use Rattle.rules.specs.declared.ReferencePolicy.{ReferencePolicy}
 use Rattle.rules.specs.Types.{keeps}
 use Rattle.rules.specs.Input.{bigEndian}
@@ -64,10 +65,6 @@ picked-within false h = omega arith
 picked-more : (b : Bool) {a n : ℕ} → a ≤ n → a ≤ cond b (suc n) a
 picked-more true h = omega arith
 picked-more false h = omega arith
-
-leading-within : (t : ℕ → Bool) (n : ℕ) → leading t n ≤ n
-leading-within t zero = omega arith
-leading-within t (suc n) = picked-within (eqb (leading t n) n && t n) (leading-within t n)
 
 leading-more : (t : ℕ → Bool) (k d : ℕ) → leading t k ≤ leading t (k + d)
 leading-more t k zero = rw (add-zero k) (omega arith)

@@ -4,62 +4,34 @@ use native.Mathlib.Nat.{not-suc-le-zero}
 use native.Mathlib.Numerals.{add-one}
 use native.Mathlib.Omega.{arith}
 use mathlib.Core.Path.{_≡_, refl, sym, ap, subst, _∙_}
-use mathlib.Core.Bool.{Bool, true, false, cond, false≢true}
+use mathlib.Core.Bool.{Bool, true, false, cond}
 use mathlib.Core.List.{List, [], _∷_, _++_}
-use lib.Dec.{eqb}
 use lib.ListN.{length}
-use borrow.Author.Tests.{eqb-true, eq-eqb, ltb-false, lt-ltb, not-false}
-use Rattle.columns.specs.Lists.{_!_, places, anyOf}
+use borrow.Author.Tests.{eqb-true, eq-eqb, lt-ltb, not-false}
+use Rattle.columns.specs.Lists.{_!_, places}
 use Rattle.columns.proofs.Lists.{places-hit, places-miss}
 use Rattle.columns.proofs.Tests.{none-of, second-fails, no-places}
 use Rattle.columns.proofs.Every.{Every, every-places}
 use Rattle.rules.specs.Input.{Input, Copied, Raw, Route, Route.copied, Route.raw, objectCount, classCount, classOf, slotTotal, slotCount, elementCount, foundAt, classesAt}
-use Rattle.rules.specs.Verdict.{badLengths, schemaLengths, badLimit, badSize, badClass, badDumped, badSpan, badPart}
-use Rattle.rules.proofs.Acceptance.{Passed, objects-few, slots-few, slots-in, statics-in, class-in, elements-few, one-dumped, copied-span, raw-span, objects-even, slots-even, statics-even, copied-even, raw-even}
+use Rattle.rules.specs.Verdict.{badSize, badSpan, badPart}
+use Rattle.rules.proofs.Acceptance.{Passed, objects-few, slots-few, slots-in, statics-in, class-in, elements-few, one-dumped, copied-span, raw-span}
+use Rattle.rules.proofs.Acceptance.{Sound, size-allowed, size-good, slots-ordered, statics-ordered}
+use Rattle.rules.proofs.Even.{objects-even, copied-even, raw-even, EvenSchema, input-even}
 use Rattle.edge_append.specs.Held.{StaticsIn}
-use Rattle.edge_append.specs.Raw.{BodyIn}
 use Rattle.edge_append.specs.Object.{marked}
 use Rattle.edge_pass.specs.Range.{SlotsFrom, CopiedIn, RawIn, PartIn, ObjectIn}
-
-four-or-eight : (n : ℕ) → anyOf (eqb n 4 ∷ eqb n 8 ∷ []) ≡ true → n ≤ 8
-unfolding anyOf
-four-or-eight n e = go (eqb n 4) refl (eqb n 8) refl e
-  where
-    go : (a : Bool) → eqb n 4 ≡ a → (b : Bool) → eqb n 8 ≡ b → anyOf (a ∷ b ∷ []) ≡ true → n ≤ 8
-    go true s b t e = omega (arith, eqb-true n 4 s)
-    go false s true t e = omega (arith, eqb-true n 8 t)
-    go false s false t e = absurd (false≢true e)
 
 -- the codes of the copied route can be counted in 64 bits, as those of a slice can
 abbrev pub CodesFit : Route → Type 0
 CodesFit (copied c) = length (c .ids .codes) < 2 ^ 64
 CodesFit (raw r) = Unit {0}
 
-module _ (x : Input) (h : Passed x) where
-  -- the columns of classes have one length
-  loaders-even : length (x .schema .classes .loaders) ≡ classCount (x .schema)
-  unfolding badLengths schemaLengths
-  loaders-even = eqb-true _ _ (not-false _ (none-of _ (none-of _ (none-of _ (h .lengths) 1) 0) 0))
+module _ (x : Input) (p : Passed x) where
+  abbrev h : Sound x
+  h = p .sound
 
-  kinds-even : length (x .schema .classes .kinds) ≡ classCount (x .schema)
-  unfolding badLengths schemaLengths
-  kinds-even = eqb-true _ _ (not-false _ (none-of _ (none-of _ (none-of _ (h .lengths) 1) 0) 2))
-
-  ranges-even : (length (x .schema .classes .slotStart) ≡ classCount (x .schema)) × (length (x .schema .classes .slotEnd) ≡ classCount (x .schema))
-      × (length (x .schema .classes .staticStart) ≡ classCount (x .schema)) × (length (x .schema .classes .staticEnd) ≡ classCount (x .schema))
-  unfolding badLengths schemaLengths
-  ranges-even =
-      let d = none-of _ (none-of _ (none-of _ (h .lengths) 1) 1) in
-      (eqb-true _ _ (not-false _ (d 0)), eqb-true _ _ (not-false _ (d 1)), eqb-true _ _ (not-false _ (d 2)), eqb-true _ _ (not-false _ (d 3)))
-
-  -- a range does not end before it starts
-  slots-ordered : (c : ℕ) → c < classCount (x .schema) → x .schema .classes .slotStart ! c ≤ x .schema .classes .slotEnd ! c
-  unfolding badDumped badClass
-  slots-ordered c l = ltb-false _ _ (none-of _ (none-of _ (h .class c l) 0) 2)
-
-  statics-ordered : (c : ℕ) → c < classCount (x .schema) → x .schema .classes .staticStart ! c ≤ x .schema .classes .staticEnd ! c
-  unfolding badDumped badClass
-  statics-ordered c l = ltb-false _ _ (none-of _ (none-of _ (h .class c l) 0) 4)
+  abbrev even : EvenSchema (x .schema)
+  even = input-even x (h .lengths)
 
   -- A mark is the class that is found at the object, and one: its statics and its loader stand in their columns.
   mark-class : (o mark : ℕ) → marked mark ≡ classesAt x o → 0 < mark → mark - 1 < classCount (x .schema)
@@ -73,12 +45,12 @@ module _ (x : Input) (h : Passed x) where
   statics-at : (o mark : ℕ) → marked mark ≡ classesAt x o
       → StaticsIn (x .schema .classes .staticStart) (x .schema .classes .staticEnd) (length (x .schema .statics .names)) (length (x .schema .statics .types)) (length (x .schema .statics .values)) mark
   statics-at o mark e = record {
-    start-in = λ l. omega (arith, mark-class o mark e l, ranges-even .2);
-    end-in = λ l. omega (arith, mark-class o mark e l, ranges-even .3);
-    ordered = λ l. statics-ordered (mark - 1) (mark-class o mark e l);
+    start-in = λ l. omega (arith, mark-class o mark e l, even .static-starts);
+    end-in = λ l. omega (arith, mark-class o mark e l, even .static-ends);
+    ordered = λ l. statics-ordered x h (mark - 1) (mark-class o mark e l);
     names-in = λ l. statics-in x h (mark - 1) (mark-class o mark e l);
-    types-in = λ l. omega (arith, statics-in x h (mark - 1) (mark-class o mark e l), statics-even x h .0);
-    values-in = λ l. omega (arith, statics-in x h (mark - 1) (mark-class o mark e l), statics-even x h .1);
+    types-in = λ l. omega (arith, statics-in x h (mark - 1) (mark-class o mark e l), even .static-types);
+    values-in = λ l. omega (arith, statics-in x h (mark - 1) (mark-class o mark e l), even .static-values);
   }
 
   module _ (o : ℕ) (l : o < objectCount x) where
@@ -87,12 +59,12 @@ module _ (x : Input) (h : Passed x) where
 
     slots-from : (start : ℕ) → (x .objects .kinds ! o ≡ 0 → start + slotTotal (x .schema) (classOf x o) < 2 ^ 64) → SlotsFrom x o start
     slots-from start f = record {
-      kind-in = λ e. omega (arith, instance-class e, kinds-even);
-      start-in = λ e. omega (arith, instance-class e, ranges-even .0);
-      end-in = λ e. omega (arith, instance-class e, ranges-even .1);
-      ordered = λ e. slots-ordered (classOf x o) (instance-class e);
-      labels-in = λ e. omega (arith, slots-in x h (classOf x o) (instance-class e), slots-even x h .0);
-      weak-in = λ e. omega (arith, slots-in x h (classOf x o) (instance-class e), slots-even x h .1);
+      kind-in = λ e. omega (arith, instance-class e, even .kinds);
+      start-in = λ e. omega (arith, instance-class e, even .slot-starts);
+      end-in = λ e. omega (arith, instance-class e, even .slot-ends);
+      ordered = λ e. slots-ordered x h (classOf x o) (instance-class e);
+      labels-in = λ e. omega (arith, slots-in x h (classOf x o) (instance-class e), even .slot-labels);
+      weak-in = λ e. omega (arith, slots-in x h (classOf x o) (instance-class e), even .slot-weak);
       held = f;
     }
 
@@ -106,7 +78,7 @@ module _ (x : Input) (h : Passed x) where
 
     copied-in : (c : Copied) → x .route ≡ copied c → length (c .ids .codes) < 2 ^ 64 → CopiedIn x c o
     copied-in c e few = record {
-      start = omega (arith, copied-even x h c e .1);
+      start = omega (arith, copied-even x (h .lengths) c e .1);
       slots = slots-from (c .starts ! o) (λ k. let two : x .objects .kinds ! o < 2 = omega arith in omega (arith, copied-span x h c e o l two, slots-are k));
       elements = λ k.
           let two : x .objects .kinds ! o < 2 = omega arith in
@@ -122,15 +94,14 @@ module _ (x : Input) (h : Passed x) where
         eqb-true _ _ (not-false _ (second-fails _ _ (none-of _ (rw e at b) 1) (eq-eqb _ _ k)))
 
     size-short : (r : Raw) → x .route ≡ raw r → r .size ≤ 8
-    unfolding badLimit badSize
-    size-short r e = four-or-eight (r .size) (not-false _ (rw e at (none-of _ (h .limits) 1)))
+    size-short r e = size-allowed r (ap badSize (sym e) ∙ size-good x h)
 
     raw-in : (r : Raw) → x .route ≡ raw r → RawIn x r o
     raw-in r e = record {
-      start = omega (arith, raw-even x h r e .0);
-      body = omega (arith, raw-even x h r e .1);
+      start = omega (arith, raw-even x (h .lengths) r e .0);
+      body = omega (arith, raw-even x (h .lengths) r e .1);
       slots = slots-from 0 (λ k. omega (arith, slots-few x h (classOf x o) (instance-class k)));
-      offsets = sym (slots-even x h .0);
+      offsets = sym (even .slot-labels);
       fields = λ k. let two : x .objects .kinds ! o < 2 = omega arith in record { inside = raw-span x h r e o l two; short = size-short r e };
       elements = λ k.
           let two : x .objects .kinds ! o < 2 = omega arith in
@@ -144,13 +115,13 @@ module _ (x : Input) (h : Passed x) where
   pub object-in : (wk : List ℕ) → objectCount x < length wk → CodesFit (x .route) → (o : ℕ) → o < objectCount x → marked (wk ! (o + 1)) ≡ classesAt x o → ObjectIn x wk o
   object-in wk w f o l e = record {
     few = omega (arith, objects-few x h);
-    kind = omega (arith, objects-even x h .0);
-    class = omega (arith, objects-even x h .1);
-    count = omega (arith, objects-even x h .2);
+    kind = omega (arith, objects-even x (h .lengths) .0);
+    class = omega (arith, objects-even x (h .lengths) .1);
+    count = omega (arith, objects-even x (h .lengths) .2);
     offset = omega arith;
     part = part-in o l (x .route) refl f;
     statics = statics-at o (wk ! (o + 1)) e;
-    loader = λ m. omega (arith, mark-class o (wk ! (o + 1)) e m, loaders-even);
+    loader = λ m. omega (arith, mark-class o (wk ! (o + 1)) e m, even .loaders);
   }
 
   -- Marks made class by class, the last that is found there counted from 1, tell the classes found at an object: there is at most one.

@@ -3,11 +3,10 @@ use Prim.Native.Nat.{ℕ, zero, suc, _+_}
 use mathlib.Core.Path.{_≡_, refl, sym, ap, ap₂, _∙_}
 use mathlib.Core.Bool.{Bool, true}
 use mathlib.Core.List.{_++_, append-nil}
-use borrow.Author.Tests.{eq-eqb}
-use Rattle.columns.specs.Lists.{_!_, tab, leading, flat}
-use Rattle.columns.proofs.Sums.{tab-ext}
+use Rattle.columns.specs.Lists.{_!_, tab, flat}
+use Rattle.columns.proofs.Sums.{tab-ext, leading-all, leading-ext}
 use Rattle.rules.specs.Types.{keeps}
-use Rattle.rules.specs.Input.{Input, Schema, Copied, Raw, Route, Route.copied, Route.raw, rawId, slotCount, elementCount, idAt, slotId, elementSpot, elementId, fits, slotFits, readSlots, slotKept, classesAt}
+use Rattle.rules.specs.Input.{Input, Schema, Copied, Raw, Route.copied, Route.raw, rawId, slotCount, elementCount, idAt, slotId, elementSpot, elementId, fits, slotFits, readSlots, slotKept, classesAt}
 use Rattle.rules.specs.Edges.{slotRef, elementRef, staticRef, staticRefs, loaderRef, classRefs, slotRefs, otherRefs, refs, edgesOf, weakTargets, missingAt}
 use Rattle.edge_append.specs.Append.{edgesIn, weakIn, missingIn}
 use Rattle.edge_append.specs.Held.{keptOf, slotWith, elementWith, copiedSlot, copiedElement, copiedSlots, copiedElements, staticAt, staticFrom, staticsAt, loaderAt}
@@ -15,10 +14,6 @@ use Rattle.edge_append.specs.Object.{together, copiedParts, copiedPartsOf, rawP
 use Rattle.edge_append.specs.Raw.{bytesId, slotEnds, slotsRead, rawSlot, rawElement, rawSlots, rawElements}
 
 -- "Every slot of the copied route counts as fitting."
-leading-all : (t : ℕ → Bool) (n : ℕ) → ((k : ℕ) → t k ≡ true) → leading t n ≡ n
-leading-all t zero h = refl
-leading-all t (suc n) h = rw (leading-all t n h, h n, eq-eqb n n refl)
-
 -- A class's statics and its loader are its references.
 classes-same : (s : Schema) (mark : ℕ)
     → staticsAt (s .classes .staticStart) (s .classes .staticEnd) (s .statics .names) (s .statics .types) (s .statics .values) mark ++ loaderAt (s .classes .loaders) mark ≡ flat (classRefs s) (marked mark)
@@ -52,10 +47,6 @@ module _ (x : Input) (c : Copied) (e : x .route ≡ copied c) (o : ℕ) where
   pub copied-refs : (mark : ℕ) → classesAt x o ≡ marked mark → together (copiedPartsOf x c o mark) ≡ refs x o
   unfolding together refs otherRefs copiedPartsOf copiedParts
   copied-refs mark h = ap₂ _++_ (slots-same mark) (ap₂ _++_ (elements-same mark) (classes-same (x .schema) mark ∙ ap (flat (classRefs (x .schema))) (sym h)))
-
-leading-ext : (t u : ℕ → Bool) (n : ℕ) → ((k : ℕ) → t k ≡ u k) → leading t n ≡ leading u n
-leading-ext t u zero h = refl
-leading-ext t u (suc n) h = rw (leading-ext t u n h, h n)
 
 module _ (x : Input) (r : Raw) (e : x .route ≡ raw r) (o : ℕ) where
   abbrev kept : Bool

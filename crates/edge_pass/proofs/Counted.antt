@@ -5,11 +5,12 @@ use mathlib.Core.Path.{_≡_, refl, sym, ap, ap₂, _∙_}
 use mathlib.Core.Bool.{Bool, true, false, cond}
 use mathlib.Core.List.{List, [], _∷_, _++_}
 use lib.ListN.{length}
-use Rattle.columns.specs.Lists.{_!_, collect, total, sum}
+use Rattle.columns.specs.Lists.{_!_, collect, sum}
 use Rattle.columns.proofs.Sums.{sum-append, sum-collect, sum-ext, total-ext, length-flat}
 use Rattle.rules.specs.Input.{Input, objectCount}
-use Rattle.rules.specs.Edges.{Kind, slot, element, static, loader, Ref, Outcome, edge, weak, missing, nothing, outcome, edgeOf, missingOf, refEdge, refWeak, refs}
+use Rattle.rules.specs.Edges.{Kind, slot, element, static, loader, Ref, Outcome, weak, missing, outcome, missingOf, refEdge, refWeak, refs}
 use Rattle.rules.specs.Account.{ofKind, isEdge, isWeak, cell, accountRow, account, noAccount}
+use Rattle.rules.proofs.Account.{same-edge}
 use Rattle.edge_append.specs.Append.{edgesIn, weakIn, missingIn}
 use Rattle.edge_append.specs.Account.{row}
 use Rattle.edge_append.specs.Object.{Parts, together}
@@ -23,12 +24,6 @@ same-kind slot = refl
 same-kind element = refl
 same-kind static = refl
 same-kind loader = refl
-
-same-edge : (l : ℕ) (u : Outcome) → length (edgeOf l u) ≡ isEdge u
-same-edge l (edge t) = refl
-same-edge l (weak t) = refl
-same-edge l missing = refl
-same-edge l nothing = refl
 
 abbrev partOf : Kind → Parts → List Ref
 partOf slot p = p .slots
@@ -87,7 +82,7 @@ module _ (x : Input) (p : ℕ → Parts) (agree : (i : ℕ) → i < objectCount 
   unfolding edgesIn
   edge-cell k =
       length-flat (refEdge ids) (collect (λ i. partOf k (p i)) n)
-      ∙ sum-ext _ _ (λ r. same-edge (r .label) (outcome ids r)) (collect (λ i. partOf k (p i)) n)
+      ∙ sum-ext _ _ (λ r. sym (same-edge (r .label) (outcome ids r))) (collect (λ i. partOf k (p i)) n)
       ∙ sym (cell-counts k isEdge)
 
   weak-cell : (k : Kind) → length (weakIn ids (collect (λ i. partOf k (p i)) n)) ≡ cell x k isWeak

@@ -1,33 +1,22 @@
 -- "The cuts don't show in the graph": two passes, one after the other, are one pass over both ranges. Assumes nothing.
-use Prim.Native.Nat.{ℕ, zero, suc, _+_, _<_}
-use native.Mathlib.Nat.{add-zero, add-suc}
+use Prim.Native.Nat.{ℕ, suc, _+_}
+use native.Mathlib.Nat.{add-suc}
 use native.Mathlib.Omega.{arith}
 use mathlib.Core.Path.{_≡_, refl, sym, ap, ap₂, _∙_}
-use mathlib.Core.List.{List, [], _∷_, _++_, map, append-nil, append-assoc}
+use mathlib.Core.List.{List, [], _∷_, _++_, map}
 use lib.Dec.{leb}
 use lib.ListN.{length, length-append, length-map, replicate}
-use lib.Seq.{sets}
 use Rattle.columns.specs.Lists.{_!_, collect, tab, total, sort}
 use Rattle.columns.proofs.Lists.{tab-length}
-use Rattle.columns.proofs.Sums.{map-append, collect-ext, total-ext, tab-ext}
+use Rattle.columns.proofs.Sums.{map-append, collect-ext, total-ext, collect-cut, total-cut}
 use Rattle.rules.specs.Input.{Input}
-use Rattle.rules.specs.Edges.{Ref, Edge}
 use Rattle.edge_append.specs.Append.{edgesIn, weakIn, missingIn, targetOf, labelOf}
-use Rattle.edge_append.specs.Account.{row}
 use Rattle.edge_append.specs.Object.{Parts, together}
 use Rattle.edge_append.specs.declared.Pass.{Pass}
 use Rattle.edge_append.proofs.Appending.{sets-append}
 use Rattle.edge_pass.specs.Walk.{edgesTo, weakTo, fromTo, missingTo, endsTo, Walked}
-use Rattle.edge_pass.specs.Range.{partsOf, partsFrom}
+use Rattle.edge_pass.specs.Range.{partsFrom}
 use Rattle.edge_pass.proofs.Walks.{row-on, from-length, mark-kept}
-
-collect-cut : {A : Type 0} (f : ℕ → List A) (m n : ℕ) → collect f (m + n) ≡ collect f m ++ collect (λ i. f (m + i)) n
-collect-cut f m zero = rw (add-zero m) (sym (append-nil (collect f m)))
-collect-cut {A} f m (suc n) = rw (add-suc m n) (ap (λ (l : List A). l ++ f (m + n)) (collect-cut f m n) ∙ append-assoc (collect f m) (collect (λ i. f (m + i)) n) (f (m + n)))
-
-total-cut : (f : ℕ → ℕ) (m n : ℕ) → total f (m + n) ≡ total f m + total (λ i. f (m + i)) n
-total-cut f m zero = rw (add-zero m) (sym (add-zero _))
-total-cut f m (suc n) = rw (add-suc m n) (omega (arith, total-cut f m n))
 
 -- The parts of the second range are those behind the first m.
 module _ (ids : List ℕ) (p p′ : ℕ → Parts) (m : ℕ) (e : (i : ℕ) → p′ i ≡ p (m + i)) where

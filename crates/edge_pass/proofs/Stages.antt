@@ -2,17 +2,17 @@
 use Prim.Native.Nat.{ℕ, suc, _+_, _<_}
 use native.Mathlib.Omega.{arith}
 use mathlib.Core.Path.{_≡_, refl, sym, ap, subst, _∙_}
-use mathlib.Core.Bool.{Bool, true, false, false≢true}
+use mathlib.Core.Bool.{true, false, false≢true}
 use mathlib.Core.List.{List, [], _∷_, _++_, map}
 use lib.ListN.{length, length-map}
 use lib.Seq.{sets}
 use borrow.Author.Tests.{leb-false, lt-ltb}
-use Rattle.columns.specs.Lists.{_!_, tab, places}
+use Rattle.columns.specs.Lists.{_!_, places}
 use Rattle.columns.specs.Columns.{over, accepts}
 use Rattle.columns.specs.Ranks.{Rises}
 use Rattle.columns.proofs.Lists.{tab-length}
 use Rattle.columns.proofs.Tests.{append-empty, places-none, second-fails}
-use Rattle.check_tables.proofs.Laws.{steps-rise}
+use Rattle.columns.proofs.Ranks.{steps-rise}
 use Rattle.rules.specs.declared.Built.{Built}
 use Rattle.rules.specs.declared.Built.the-variants as Built
 use Rattle.rules.specs.Types.{builtSays}
@@ -20,7 +20,7 @@ use Rattle.rules.specs.Input.{Input, Copied, Route, Route.copied, Route.raw, ob
 use Rattle.rules.specs.Edges.{edges, graph}
 use Rattle.rules.specs.Verdict.{falls, badCode, badEscape, badCopied}
 use Rattle.rules.specs.Needs.{needWeak}
-use Rattle.rules.specs.Account.{account, noAccount}
+use Rattle.rules.specs.Account.{account}
 use Rattle.rules.proofs.Acceptance.{Passed, check-passed, objects-few, ids-rise}
 use Rattle.rules.proofs.Passes.{edges-within}
 use Rattle.rules.proofs.Bounds.{missing-below}
@@ -28,7 +28,7 @@ use Rattle.edge_append.specs.Account.{RowIn, AccountIn}
 use Rattle.edge_append.specs.Append.{targetOf, labelOf}
 use Rattle.edge_append.specs.Object.{Parts, copiedPartsOf, rawPartsOf}
 use Rattle.edge_append.specs.declared.Pass.{Pass}
-use Rattle.edge_pass.specs.Walk.{edgesTo, weakTo, fromTo, endsTo, missingTo, Walked, WalkRoom}
+use Rattle.edge_pass.specs.Walk.{edgesTo, weakTo, endsTo, Walked, WalkRoom}
 use Rattle.edge_pass.specs.Range.{partsOf, partsFrom, PartIn, ObjectIn}
 use Rattle.edge_pass.specs.Stage.{Handed, withPass, edgesSaid, Edged}
 use Rattle.edge_pass.proofs.Walks.{from-length}
@@ -109,7 +109,7 @@ module _ (x : Input) {nt nl nf nw : ℕ} {wk : List ℕ} {a : List (List ℕ)} (
       let ps = c .ids .places in
       let fallen = places (falls ps) (length ps) in
       let bad = places (badCode (c .ids)) (length (c .ids .codes)) in
-      let both = append-empty (fallen ++ bad) (places (badEscape (c .ids)) (length ps)) (sym (ap badCopied e) ∙ passed .copied) .0 in
+      let both = append-empty (fallen ++ bad) (places (badEscape (c .ids)) (length ps)) (sym (ap badCopied e) ∙ passed .sound .copied) .0 in
       let none = append-empty fallen bad both .0 in
       steps-rise ps (λ i l. leb-false (ps ! suc i) (ps ! i) (second-fails _ _ (places-none (falls ps) (length ps) (suc i) none l) (lt-ltb 0 (suc i) (omega arith))))
 
@@ -147,8 +147,8 @@ module _ (x : Input) {nt nl nf nw : ℕ} {wk : List ℕ} {a : List (List ℕ)} (
   handed-room {s} e =
       rw e
       (record {
-        rising = ids-rise x passed;
-        few = omega (arith, objects-few x passed);
+        rising = ids-rise x (passed .sound);
+        few = omega (arith, objects-few x (passed .sound));
         targets = omega (arith, edge-number, edges-within x, d .targets);
         labels = omega (arith, edge-number, edges-within x, d .labels);
         objects = omega (arith, weak-number, weak-room, d .objects);

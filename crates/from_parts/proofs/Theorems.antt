@@ -5,23 +5,25 @@ use mathlib.Core.Path.{_≡_, refl, sym, ap, _∙_}
 use mathlib.Core.Bool.{Bool, true, false}
 use mathlib.Core.List.{List, [], _∷_, _++_}
 use lib.Dec.{ltb}
-use lib.ListN.{length, length-map}
+use lib.ListN.{length}
 use borrow.Author.Tests.{eq-eqb, le-ltb}
 use Rattle.columns.specs.Lists.{anyOf, places}
 use Rattle.columns.specs.Columns.{accepts}
-use Rattle.columns.proofs.Tests.{none-of, append-empty, no-places}
+use Rattle.columns.proofs.Tests.{append-empty, no-places}
 use Rattle.rules.specs.declared.Built.{Built}
 use Rattle.rules.specs.Types.{builtSays}
 use Rattle.rules.specs.Input.{Input, Schema, classCount}
-use Rattle.rules.specs.Edges.{Parts, graph, weakPairs}
+use Rattle.rules.specs.Edges.{Parts, graph}
 use Rattle.rules.specs.Needs.{Lent, Rooms, buffer, objectsOf, needPlaces, needWeak, needRoots, needBases, needOffsets, shortLater, shortOfBuild, shortOfParts}
-use Rattle.rules.specs.Verdict.{at, differs, schemaLengths, overLimit, badLengths, badLimit, badClass, badDumped, overPlaces, buildSays}
+use Rattle.rules.specs.Verdict.{at, differs, schemaLengths, overLimit, badClass, overPlaces, buildSays}
 use Rattle.rules.specs.Parts.{handedFaults, partsSays}
 use Rattle.rules.specs.Built.{CodedLeft, codedLeft, PartsLeft, buildLeft, partsLeft}
 use Rattle.rules.proofs.Types.{one-built}
-use Rattle.rules.proofs.Acceptance.{Passed, build-passed, build-room, build-says}
+use Rattle.rules.proofs.Acceptance.{Passed, build-passed, build-room, build-says, limits-good, class-good}
 use Rattle.rules.proofs.Laid.{objects-are, build-meets, build-parts}
 use Rattle.rules.proofs.Passes.{edges-few}
+use Rattle.rules.proofs.Finished.{weak-even}
+use Rattle.rules.proofs.Even.{schema-lengths}
 use Rattle.from_parts.specs.Parts.{leftAs}
 
 -- No second outcome satisfies the promise: the answer, and all eleven columns.
@@ -38,25 +40,15 @@ module _ (x : Input) (h : Passed x) where
   abbrev s : Schema
   s = x .schema
 
-  even : length (g .weakTo) ≡ length (g .weakFrom)
-  unfolding graph
-  even = length-map (weakPairs x) _ ∙ sym (length-map (weakPairs x) _)
-
-  schema-pass : schemaLengths s ≡ false
-  unfolding badLengths
-  schema-pass = none-of _ (h .lengths) 1
-
   lengths-pass : anyOf (schemaLengths s ∷ differs (length (g .weakFrom)) (length (g .weakTo) ∷ []) ∷ []) ≡ false
   unfolding anyOf
-  lengths-pass = rw (schema-pass, eq-eqb (length (g .weakTo)) (length (g .weakFrom)) even)
+  lengths-pass = rw (schema-lengths x (h .sound .lengths), eq-eqb (length (g .weakTo)) (length (g .weakFrom)) (sym (weak-even x)))
 
   limits-pass : overLimit (objectsOf g) s ≡ false
-  unfolding badLimit
-  limits-pass = ap (λ (n : ℕ). overLimit n s) (objects-are x) ∙ none-of _ (h .limits) 0
+  limits-pass = ap (λ (n : ℕ). overLimit n s) (objects-are x) ∙ limits-good x (h .sound)
 
   classes-pass : places (badClass s) (classCount s) ≡ []
-  unfolding badDumped
-  classes-pass = no-places (badClass s) (classCount s) (λ c l. none-of _ (h .class c l) 0)
+  classes-pass = no-places (badClass s) (classCount s) (class-good x (h .sound))
 
   places-pass : overPlaces (length (g .labels)) ≡ false
   places-pass = le-ltb 268435456 (length (g .labels)) (omega (arith, edges-few x h, build-meets x h .counted))

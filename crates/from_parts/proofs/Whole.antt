@@ -6,20 +6,21 @@ use mathlib.Core.List.{List, [], _∷_}
 use lib.ListN.{length}
 use Rattle.columns.specs.Lists.{_!_}
 use Rattle.columns.specs.Columns.{accepts}
+use Rattle.columns.proofs.Answers.{accepting}
 use Rattle.rules.specs.declared.Refusal.{Refusal}
 use Rattle.rules.specs.Types.{refusalSays}
 use Rattle.rules.proofs.Types.{refusal-refuses}
 use Rattle.rules.specs.Input.{Schema, classCount}
 use Rattle.rules.specs.Edges.{Parts}
 use Rattle.rules.specs.Needs.{Lent, shortOfParts}
-use Rattle.rules.specs.Verdict.{firstOf, at, counts}
+use Rattle.rules.specs.Verdict.{firstOf, at, counts, plainCounts}
 use Rattle.rules.specs.Parts.{partsFaults, handedFaults, handedSays, partsSays}
 use Rattle.rules.specs.Built.{CodedLeft, codedLeft, partsLeft}
 use Rattle.rules.proofs.First.{first-append}
 use Rattle.rules.proofs.Handed.{handed-passed, handed-refuse}
 use Rattle.check_parts.specs.Checks.{handed}
 use Rattle.code_columns.specs.Stages.{handOn, Where, Ready}
-use Rattle.code_columns.specs.Finished.{namingOf, plainCounts, Finished, Coding}
+use Rattle.code_columns.specs.Finished.{namingOf, Finished, Coding}
 use Rattle.code_stages.proofs.Laws.{on-true, on-false}
 use Rattle.code_columns.proofs.Readying.{ready-parts}
 use Rattle.from_parts.specs.Parts.{partsOf, leftAs, countedSays}
@@ -34,10 +35,6 @@ handed-same s offsets targets labels weakFrom weakTo roots dangling = refl
 refused-first : (fs : List (List ℕ)) (done other : List ℕ) → accepts done ≡ true → accepts (firstOf fs done) ≡ false → firstOf fs other ≡ firstOf fs done
 refused-first [] done other y n = absurd (true≢false (sym y ∙ n))
 refused-first (f ∷ fs) done other y n = refl
-
-zero-accepts : (values : List ℕ) → accepts (0 ∷ values) ≡ true
-unfolding accepts
-zero-accepts values = refl
 
 pub refused-counted : (r : Refusal) (weak roots dangling : ℕ) → countedSays (refusalSays r) weak roots dangling ≡ refusalSays r
 refused-counted r weak roots dangling =
@@ -94,11 +91,11 @@ module _ (s : Schema) (p : Parts) {checked v : List ℕ} (e : checked ≡ handed
       where
         go : (b : Bool) → accepts checked ≡ b → handOn v rooms ≡ firstOf (handedFaults s p) rooms
         go true y =
-            on-true v rooms (ap accepts (counted-is y) ∙ zero-accepts _) ∙ ap (λ (fs : List (List ℕ)). firstOf fs rooms) (sym (no-faults y))
+            on-true v rooms (ap accepts (counted-is y) ∙ accepting _) ∙ ap (λ (fs : List (List ℕ)). firstOf fs rooms) (sym (no-faults y))
         go false n =
             let is : v ≡ checked = f ∙ ap (λ (b : Bool). cond b (0 ∷ checked ! 1 ∷ length (p .weakFrom) ∷ length (p .roots) ∷ 0 ∷ 0 ∷ 0 ∷ p .dangling ∷ []) checked) n in
             on-false v rooms (ap accepts is ∙ n) ∙ is ∙ e
-            ∙ sym (refused-first (handedFaults s p) (0 ∷ length (p .labels) ∷ []) rooms (zero-accepts _) (ap accepts (sym e) ∙ n))
+            ∙ sym (refused-first (handedFaults s p) (0 ∷ length (p .labels) ∷ []) rooms (accepting _) (ap accepts (sym e) ∙ n))
 
     pub parts-left : leftAs says left ≡ partsLeft s p l
     unfolding partsLeft

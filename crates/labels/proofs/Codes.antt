@@ -12,8 +12,8 @@ use Rattle.columns.proofs.Lists.{tab-length}
 use Rattle.columns.proofs.Sums.{tab-ext, collect-ext, part-length}
 use Rattle.columns.proofs.Parts.{never-falls}
 use Rattle.rules.specs.Types.{LOADER, ARRAY-ELEMENT, isElement}
-use Rattle.rules.specs.Labels.{expected, labelCode, codesOf, codesFor, coded}
-use Rattle.labels.specs.Coding.{gapOf, codeBy, codeIn, codesBy, own, allBy, LaidOut, escapesIn, escapedTo, labelsTo, RoomFor, Escapes, TableOf, CodesLaid}
+use Rattle.rules.specs.Labels.{expected, labelCode, codesOf, codesFor, coded, own}
+use Rattle.labels.specs.Coding.{gapOf, codeBy, codeIn, codesBy, allBy, LaidOut, escapesIn, escapedTo, labelsTo, RoomFor, Escapes, TableOf, CodesLaid}
 use Rattle.labels.proofs.Table.{table-code}
 use Rattle.labels.proofs.Escapes.{escapes-places, escaped-over}
 

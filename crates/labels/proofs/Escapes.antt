@@ -9,7 +9,7 @@ use lib.ListN.{length, take, drop, length-append, List·getD-append}
 use lib.Seq.{take-suc, take-length}
 use Rattle.columns.specs.Lists.{_!_, places, one}
 use Rattle.columns.specs.Columns.{over}
-use Rattle.columns.proofs.Sums.{sum-append}
+use Rattle.columns.proofs.Sums.{sum-append, one-few}
 use Rattle.columns.proofs.Parts.{places-ext}
 use Rattle.rules.specs.Labels.{isEscaped}
 use Rattle.labels.specs.Coding.{escapesIn, escapedTo}
@@ -21,10 +21,6 @@ escapes-append xs ys = sum-append (λ c. one (isEscaped c)) xs ys
 pub escapes-one : (c : ℕ) → escapesIn (c ∷ []) ≡ one (isEscaped c)
 unfolding escapesIn
 escapes-one c = add-zero (one (isEscaped c))
-
-pub one-few : (b : Bool) → one b ≤ 1
-one-few true = omega arith
-one-few false = omega arith
 
 pub escapes-few : (cs : List ℕ) → escapesIn cs ≤ length cs
 unfolding escapesIn

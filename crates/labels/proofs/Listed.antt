@@ -12,8 +12,9 @@ use borrow.Author.Tests.{le-leb, lt-leb}
 use Rattle.columns.specs.Lists.{_!_}
 use Rattle.columns.specs.Columns.{zeros, cleared}
 use Rattle.columns.proofs.Lists.{lt-or-ge, tab-at, tab-length}
-use Rattle.columns.proofs.Written.{cleared-all}
+use Rattle.columns.proofs.Written.{zeroed, zero-at}
 use Rattle.columns.proofs.Every.{Every, every-at, every-sort}
+use Rattle.columns.proofs.Sums.{length-sort}
 use Rattle.rules.specs.Types.{LOADER}
 use Rattle.rules.specs.Input.{Schema, classCount}
 use Rattle.rules.specs.Labels.{named, occurring, listed, ranked, fieldsOf}
@@ -21,9 +22,7 @@ use Rattle.labels.specs.Coding.{slotOf}
 use Rattle.labels.specs.Fields.{Named, marks, slotsNamed, naming, namedBy, marked, firstOf, first}
 use Rattle.labels.proofs.Table.{slot-loader, slot-name}
 use Rattle.labels.proofs.Marks.{marked-occurring}
-use Rattle.labels.proofs.Uses.{zero-at}
 use Rattle.labels.proofs.Ranking.{every-occurring}
-use Rattle.labels.proofs.Ranks.{length-sort}
 
 -- the columns of a schema name what the schema names
 pub named-by : (s : Schema)
@@ -34,7 +33,7 @@ named-by s = refl
 -- the labels marked in a table that was cleared
 pub marked-cleared : (names : ℕ) (t₀ ls : List ℕ) {z t : List ℕ} → names ≤ LOADER → names + 2 ≤ length t₀ → z ≡ cleared 0 t₀ → t ≡ marks names z ls → marked names t ≡ occurring names ls
 marked-cleared names t₀ ls {z} few long e m =
-    let is : z ≡ zeros (length t₀) = e ∙ cleared-all t₀ in
+    let is : z ≡ zeros (length t₀) = zeroed t₀ e in
     ap (marked names) m
     ∙ marked-occurring names z ls few (omega (arith, ap length is, length-replicate {A = ℕ} (length t₀) 0)) (λ i l. ap (λ (t : List ℕ). t ! i) is ∙ zero-at (length t₀) i)
 

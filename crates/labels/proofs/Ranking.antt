@@ -15,11 +15,11 @@ use Rattle.columns.specs.Ranks.{Rises}
 use Rattle.columns.proofs.Lists.{lt-or-ge, places-rise, places-below}
 use Rattle.columns.proofs.Parts.{places-ext}
 use Rattle.columns.proofs.Every.{Every, every-append, every-at, every-index, every-sort}
+use Rattle.columns.proofs.Sums.{one-few}
 use Rattle.rules.specs.Types.{LOADER}
 use Rattle.rules.specs.Labels.{occurring, ranked}
 use Rattle.labels.specs.Fields.{labelAt, keyOf, isUsed, keyAt, keysOf, labelOf}
 use Rattle.labels.proofs.Table.{label-places}
-use Rattle.labels.proofs.Escapes.{one-few}
 
 -- a sort of images is the image of the sort by the images' order
 module _ (f : ℕ → ℕ) where

@@ -2,29 +2,24 @@
 use Prim.Native.Nat.{ℕ, _+_, _-_, _≤_, _<_, min}
 use native.Mathlib.Omega.{arith}
 use mathlib.Core.Path.{_≡_, sym, ap, _∙_}
-use mathlib.Core.Bool.{Bool}
 use mathlib.Core.List.{List, _++_, map}
 use lib.Dec.{leb}
 use lib.ListN.{length, take, drop, length-append, length-take, length-map, length-replicate, List·getD-append}
-use lib.Seq.{take-at}
 use Rattle.columns.specs.Lists.{_!_, count, sort, part}
 use Rattle.columns.specs.Columns.{zeros, cleared, over}
 use Rattle.columns.proofs.Lists.{map-at}
-use Rattle.columns.proofs.Sums.{sum-one, sum-sort}
-use Rattle.columns.proofs.Written.{cleared-all}
+use Rattle.columns.proofs.Sums.{length-sort}
+use Rattle.columns.proofs.Written.{zeroed, zero-at, over-front}
 use Rattle.rules.specs.Types.{LOADER}
 use Rattle.rules.specs.Labels.{ranked}
 use Rattle.labels.specs.Fields.{labelAt, uses, keysOf, labelOf, labelsOf, Keyed, firstOf, Few}
-use Rattle.labels.proofs.Uses.{zero-at, uses-few, uses-at}
+use Rattle.labels.proofs.Uses.{uses-few, uses-at}
 use Rattle.labels.proofs.Ranking.{ranked-keys, tab-take, take-min}
-
-pub length-sort : (le : ℕ → ℕ → Bool) (xs : List ℕ) → length (sort le xs) ≡ length xs
-length-sort le xs = sym (sum-one (sort le xs)) ∙ sum-sort (λ a. 1) le xs ∙ sum-one xs
 
 -- counted from zeros
 module _ (names : ℕ) (labels c₀ : List ℕ) {z counts : List ℕ} (cleared-is : z ≡ cleared 0 c₀) (uses-are : counts ≡ uses names z labels) where
   zeros-are : z ≡ zeros (length c₀)
-  zeros-are = cleared-is ∙ cleared-all c₀
+  zeros-are = zeroed c₀ cleared-is
 
   none : (s : ℕ) → z ! s ≡ 0
   none s = ap (λ (t : List ℕ). t ! s) zeros-are ∙ zero-at (length c₀) s
@@ -38,11 +33,6 @@ module _ (names : ℕ) (labels c₀ : List ℕ) {z counts : List ℕ} (cleared-i
       ∙ uses-at names i few l z labels (omega (arith, ap length zeros-are, length-replicate {A = ℕ} (length c₀) 0))
       ∙ omega (arith, none i)
 
-pub zeroed : (c₀ z : List ℕ) → z ≡ cleared 0 c₀ → z ≡ zeros (length z)
-zeroed c₀ z e =
-    let is : z ≡ zeros (length c₀) = e ∙ cleared-all c₀ in
-    is ∙ ap zeros (sym (ap length is ∙ length-replicate {A = ℕ} (length c₀) 0))
-
 -- the keys that are written
 module _ {names : ℕ} {counts k₀ keys : List ℕ} {used : ℕ} (w : Keyed names counts k₀ used keys) where
   pub used-within : used ≤ length keys
@@ -50,8 +40,7 @@ module _ {names : ℕ} {counts k₀ keys : List ℕ} {used : ℕ} (w : Keyed nam
   used-within = omega (arith, w .used, ap length (w .keys), length-append (keysOf names counts) (drop (length (keysOf names counts)) k₀))
 
   written : part keys 0 used ≡ keysOf names counts
-  unfolding over
-  written = let z : used - 0 ≡ used = omega arith in rw (z, w .keys) (take-at (keysOf names counts) (drop (length (keysOf names counts)) k₀) used (sym (w .used)))
+  written = let z : used - 0 ≡ used = omega arith in rw (z, w .keys) (over-front (keysOf names counts) k₀ used (sym (w .used)))
 
 -- their sorted front
 module _ (names : ℕ) (labels : List ℕ) (few : names ≤ LOADER) (short : length labels ≤ 4294967295) {counts k₀ keys : List ℕ} {used : ℕ} (at : (i : ℕ) → i ≤ names → counts ! i ≡ count (labelAt names i) labels) (w : Keyed names counts k₀ used keys) (ys rest : List ℕ) (sorted : ys ≡ sort leb (part keys 0 used)) where

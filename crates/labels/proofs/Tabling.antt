@@ -9,11 +9,12 @@ use mathlib.Core.List.{List, _++_}
 use mathlib.Core.Option.{Option, none, some}
 use lib.Dec.{eqb}
 use lib.ListN.{length, set, take, drop, length-set, length-take, take-append-drop, List·getD-append}
-use lib.Seq.{getD-set-same, getD-set-other, getD-take, drop-set-lt, drop-cons, drop-at, drop-length, ext-getD, take-at}
+use lib.Seq.{getD-set-same, getD-set-other, getD-take, drop-set-lt, drop-cons, drop-at, drop-length, ext-getD}
 use borrow.Author.Tests.{eqb-true, eqb-false, eq-eqb, ne-eqb}
 use Rattle.columns.specs.Lists.{_!_, find, next, orElse}
 use Rattle.columns.specs.Columns.{over}
 use Rattle.columns.proofs.Lists.{tab-at, tab-length}
+use Rattle.columns.proofs.Written.{over-front}
 use Rattle.rules.specs.Types.{LOADER}
 use Rattle.rules.specs.Labels.{fieldCode, codeTable}
 use Rattle.labels.specs.Coding.{slotOf, TableOf}
@@ -114,8 +115,7 @@ module _ (names : ℕ) (fields t₀ : List ℕ) (long : names + 2 ≤ length t�
 
 -- what `write_table` leaves is a table of the fields
 pub table-written : (names : ℕ) (fields t₀ t : List ℕ) → Named names fields → t ≡ over (codeTable names fields) t₀ → TableOf names fields t
-unfolding over
 table-written names fields t₀ t named e = record {
   named = named;
-  front = ap (take (names + 2)) e ∙ take-at (codeTable names fields) (drop (length (codeTable names fields)) t₀) (names + 2) (table-length names fields);
+  front = ap (take (names + 2)) e ∙ over-front (codeTable names fields) t₀ (names + 2) (table-length names fields);
 }

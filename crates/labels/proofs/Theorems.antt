@@ -4,11 +4,10 @@ use native.Mathlib.Omega.{arith}
 use mathlib.Core.Path.{_≡_, sym, ap, _∙_}
 use mathlib.Core.Bool.{true}
 use mathlib.Core.List.{List, [], _∷_}
-use lib.ListN.{length, take, drop, length-map}
-use lib.Seq.{take-at}
+use lib.ListN.{length, take, length-map}
 use Rattle.columns.specs.Lists.{_!_}
-use Rattle.columns.specs.Columns.{over}
 use Rattle.columns.proofs.Lists.{places-rise}
+use Rattle.columns.proofs.Written.{over-front}
 use Rattle.rules.specs.Edges.{Parts}
 use Rattle.rules.specs.Labels.{Coded, codesFor, isEscaped, coded}
 use Rattle.rules.specs.Needs.{objectsOf}
@@ -21,10 +20,6 @@ use Rattle.labels.specs.declared.EdgeLabel.the-variants.{Is, Bad}
 use Rattle.labels.specs.Coding.{Laid}
 use Rattle.labels.specs.Reading.{readSays, codedOf, coarseBack, exactBack}
 use Rattle.labels.proofs.Back.{exact-back, coarse-back}
-
-used : (xs d : List ℕ) (n : ℕ) → length xs ≡ n → take n (over xs d) ≡ xs
-unfolding over
-used xs d n e = take-at xs (drop (length xs) d) n e
 
 says-is : (r : EdgeLabel) (l : ℕ) → readSays r ≡ l ∷ [] → r ≡ Is l
 says-is (Is x) l e = let z : x ≡ l = cc in ap Is z
@@ -50,7 +45,7 @@ module _ (names : ℕ) (p : Parts) (law : Meets names p) (small : (e : ℕ) → 
     is-coded : left ≡ d
     unfolding coded
     is-coded =
-        rw (w .codes, w .escape-at, w .escape-label, used (d .codes) c₀ (length (p .labels)) codes-size, used (d .escapeAt) a₀ rows (sym (w .rows)), used (d .escapeLabel) l₀ rows labels-size)
+        rw (w .codes, w .escape-at, w .escape-label, over-front (d .codes) c₀ (length (p .labels)) codes-size, over-front (d .escapeAt) a₀ rows (sym (w .rows)), over-front (d .escapeLabel) l₀ rows labels-size)
 
     module _ (o : ℕ) (h : o < objectsOf p) where
       abbrev e : ℕ

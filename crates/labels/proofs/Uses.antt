@@ -1,5 +1,5 @@
 -- Uses that are counted by place: one label after the other, how many at most, and how often each label occurs. Assumes nothing.
-use Prim.Native.Nat.{ℕ, zero, suc, _+_, _≤_, _<_}
+use Prim.Native.Nat.{ℕ, _+_, _≤_, _<_}
 use native.Mathlib.Nat.{add-zero}
 use native.Mathlib.Numerals.{add-one}
 use native.Mathlib.Omega.{arith}
@@ -14,6 +14,7 @@ use borrow.Author.Tests.{eqb-true, eqb-false}
 use Rattle.columns.specs.Lists.{_!_, one, count}
 use Rattle.columns.specs.Columns.{zeros}
 use Rattle.columns.proofs.Lists.{lt-or-ge}
+use Rattle.columns.proofs.Written.{zero-at}
 use Rattle.rules.specs.Types.{LOADER}
 use Rattle.labels.specs.Coding.{slotOf}
 use Rattle.labels.specs.Fields.{labelAt, tally, uses}
@@ -71,11 +72,6 @@ module _ (names i : ℕ) (few : names ≤ LOADER) (h : i ≤ names) where
   pub uses-at : (t ls : List ℕ) → i < length t → uses names t ls ! i ≡ t ! i + count (labelAt names i) ls
   uses-at t [] m = sym (add-zero (t ! i))
   uses-at t (l ∷ ls) m = omega (arith, uses-at (tally names t l) ls (omega (arith, tally-length names t l)), tally-at t l m)
-
-pub zero-at : (n s : ℕ) → zeros n ! s ≡ 0
-zero-at zero s = refl
-zero-at (suc n) zero = refl
-zero-at (suc n) (suc s) = zero-at n s
 
 -- counted from zeros, no place has more than the labels so far
 pub zeros-few : (names : ℕ) (t labels : List ℕ) (i s : ℕ) → t ≡ zeros (length t) → uses names t (take i labels) ! s ≤ i

@@ -5,10 +5,10 @@ use mathlib.Core.Bool.{cond}
 use mathlib.Core.List.{List, map}
 use lib.Dec.{eqb, ltb}
 use lib.ListN.{length, take}
-use Rattle.columns.specs.Lists.{_!_, collect, tab, places, sum, one, part}
+use Rattle.columns.specs.Lists.{_!_, collect, tab, places, sum, one}
 use Rattle.columns.specs.Columns.{over}
 use Rattle.rules.specs.Types.{LOADER, ARRAY-ELEMENT, isElement}
-use Rattle.rules.specs.Labels.{expected, isEscaped, codeTable, Coded, coded}
+use Rattle.rules.specs.Labels.{expected, isEscaped, codeTable, Coded, coded, own}
 
 -- "A code table of names + 2 (each name, the loader, any other label)": where a label stands in it.
 unfoldable pub slotOf : ℕ → ℕ → ℕ
@@ -32,9 +32,6 @@ codeIn names table ls k = codeBy names table (expected ls k) (ls ! k)
 
 unfoldable pub codesBy : ℕ → List ℕ → List ℕ → List ℕ
 codesBy names table ls = tab (codeIn names table ls) (length ls)
-
-abbrev pub own : List ℕ → List ℕ → ℕ → List ℕ
-own offsets labels o = part labels (offsets ! o) (offsets ! suc o)
 
 unfoldable pub allBy : ℕ → List ℕ → List ℕ → List ℕ → ℕ → List ℕ
 allBy names table offsets labels m = collect (λ o. codesBy names table (own offsets labels o)) m

@@ -6,16 +6,16 @@ use mathlib.Core.Path.{_≡_, refl, sym, ap, _∙_}
 use mathlib.Core.Bool.{Bool, true, false}
 use mathlib.Core.List.{List, [], _∷_, _++_}
 use lib.Dec.{eqb}
-use lib.ListN.{length, set, take, length-set, length-replicate}
+use lib.ListN.{length, take, length-set, length-replicate}
 use lib.Seq.{getD-set-same, getD-set-other, take-suc}
 use borrow.Author.Tests.{eqb-true, eqb-false}
 use Rattle.columns.specs.Lists.{_!_, one, count}
 use Rattle.columns.specs.Columns.{zeros}
+use Rattle.columns.proofs.Written.{zero-at}
 use Rattle.rules.specs.Types.{LOADER}
 use Rattle.labels.specs.Coding.{slotOf}
 use Rattle.labels.specs.Fields.{labelAt}
 use Rattle.labels.proofs.Table.{slot-label, label-slot}
-use Rattle.labels.proofs.Uses.{zero-at}
 use Rattle.need_escapes.specs.Uncoded.{cap, capped}
 
 cap-length : (names : ℕ) (t : List ℕ) (l : ℕ) → length (cap names t l) ≡ length t

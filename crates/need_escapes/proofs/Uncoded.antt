@@ -1,36 +1,35 @@
 -- The escapes of the label columns are those of the elements, and the uses of the fields behind the first of the ranking. Assumes nothing.
-use Prim.Native.Nat.{ℕ, zero, suc, _+_, _-_, _*_, _%_, _≤_, _<_, min}
+use Prim.Native.Nat.{ℕ, zero, suc, _+_, _-_, _%_, _≤_, _<_, min}
 use native.Mathlib.Nat.{add-zero, not-suc-le-zero}
 use native.Mathlib.Numerals.{add-one}
 use native.Mathlib.Omega.{arith}
 use mathlib.Core.Path.{_≡_, refl, sym, ap, ap₂, subst, _∙_}
-use mathlib.Core.Logic.{_⊎_, inl, inr, ⊎-elim}
+use mathlib.Core.Logic.{_⊎_, ⊎-elim}
 use mathlib.Core.Bool.{Bool, true, false, cond}
 use mathlib.Core.List.{List, [], _∷_, _++_, map}
 use mathlib.Core.Option.{Option, none, some}
-use lib.Dec.{eqb, leb, ltb}
+use lib.Dec.{eqb, ltb}
 use lib.ListN.{length, take, drop, take-append-drop, length-take, length-replicate}
 use lib.Seq.{take-length, take-add}
 use borrow.Author.Tests.{eq-eqb, ne-eqb, eqb-true, eqb-false, lt-ltb, le-ltb, le-leb, lt-leb}
-use Rattle.columns.specs.Lists.{_!_, collect, tab, places, find, next, found, sum, one, count, total, sort, part, orElse}
+use Rattle.columns.specs.Lists.{_!_, tab, places, find, next, found, sum, one, count, total, orElse}
 use Rattle.columns.specs.Columns.{zeros, cleared}
-use Rattle.columns.proofs.Written.{cleared-all}
+use Rattle.columns.proofs.Written.{cleared-all, zeroed, zero-at}
 use Rattle.columns.proofs.Lists.{lt-or-ge}
 use Rattle.columns.proofs.Parts.{places-ext}
 use Rattle.columns.proofs.Every.{Chain}
 use Rattle.columns.proofs.Search.{find-get}
-use Rattle.columns.proofs.Sums.{sum-append, sum-sort, sum-collect, sum-tab, sum-map, total-ext, total-add, part-at, part-length}
+use Rattle.columns.proofs.Sums.{sum-append, sum-sort, sum-collect, sum-tab, sum-map, total-ext, total-add, part-at, part-length, one-few}
+use Rattle.columns.proofs.Counts.{occurs, occurs-count, places-count, places-beyond, places-length, places-within}
 use Rattle.rules.specs.Types.{LOADER, ARRAY-ELEMENT, isElement}
-use Rattle.rules.specs.Labels.{occurring, ranked, fieldCode, labelCode, expected, codesOf, codesFor, isEscaped, coded}
-use Rattle.labels.specs.Coding.{slotOf, gapOf, codeBy, codeIn, codesBy, own, allBy, LaidOut, Room, escapesIn, escapedTo}
+use Rattle.rules.specs.Labels.{occurring, ranked, fieldCode, labelCode, expected, codesOf, codesFor, isEscaped, coded, own}
+use Rattle.labels.specs.Coding.{slotOf, codeBy, codeIn, codesBy, allBy, LaidOut, Room, escapesIn, escapedTo}
 use Rattle.labels.specs.Fields.{labelAt, firstOf}
 use Rattle.labels.proofs.Table.{label-places}
-use Rattle.labels.proofs.Uses.{zero-at}
-use Rattle.labels.proofs.Escapes.{escapes-places, escapes-append, escapes-few, one-few}
+use Rattle.labels.proofs.Escapes.{escapes-places, escapes-append, escapes-few}
 use Rattle.labels.proofs.Codes.{laid-within, all-length}
 use Rattle.labels.proofs.Ranking.{tab-take}
 use Rattle.need_escapes.specs.Uncoded.{Labelled, capped, isMore, usedMore, layers}
-use Rattle.need_roots.proofs.Distinct.{occurs, occurs-count, places-count, places-beyond, places-length, places-few}
 use Rattle.need_escapes.proofs.Layers.{moreThan, falling, sum-behind, sort-falls, few-more, count-swap}
 use Rattle.need_escapes.proofs.Capped.{capped-count, capped-length}
 
@@ -243,7 +242,7 @@ layers-more k names table t e f = rw (add-one t) (ap₂ _+_ e (ap (λ (n : ℕ).
 
 pub layer-few : (names : ℕ) (table : List ℕ) (t : ℕ) → usedMore names table t ≤ names + 1
 unfolding usedMore
-layer-few names table t = places-few (isMore table t) (names + 1)
+layer-few names table t = places-within (isMore table t) (names + 1)
 
 pub not-last : (names : ℕ) (table : List ℕ) (t : ℕ) {n : ℕ} → n ≡ usedMore names table t → 32767 < n → t ≤ 65534 → usedMore names table 65534 ≤ 32767 → t < 65534
 not-last names table t e h l last =
@@ -252,7 +251,7 @@ not-last names table t e h l last =
 -- The steps of `slow_escapes`: a table of zeros, the elements' escapes by it, the uses counted in it, and their layers.
 module _ (names : ℕ) (offsets labels t₀ : List ℕ) (room : Room names t₀) (laid : LaidOut offsets (length labels)) (ok : Labelled names labels) (short : length labels ≤ 268435456) {z t : List ℕ} (cleared-is : z ≡ cleared 0 t₀) (counted : t ≡ capped names z labels) where
   zeros-are : z ≡ zeros (length t₀)
-  zeros-are = cleared-is ∙ cleared-all t₀
+  zeros-are = zeroed t₀ cleared-is
 
   at : (i : ℕ) → i ≤ names → t ! i ≡ min 65535 (count (labelAt names i) labels)
   at i l = ap (λ (d : List ℕ). d ! i) (counted ∙ ap (λ (d : List ℕ). capped names d labels) zeros-are) ∙ capped-count names i (room .few) l (length t₀) labels (omega (arith, room .long))

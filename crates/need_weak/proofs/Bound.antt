@@ -1,25 +1,25 @@
 -- The most weak pairs, counted slot by slot and object by object; that instances of classes of kind none are stepped over rightly; and that neither route has more. Assumes nothing.
-use Prim.Native.Nat.{ℕ, zero, suc, _+_, _-_, _^_, _≤_, _<_}
+use Prim.Native.Nat.{ℕ, _+_, _-_, _≤_, _<_}
 use native.Mathlib.Nat.{le-refl}
 use native.Mathlib.Numerals.{add-one}
 use native.Mathlib.Omega.{arith}
-use mathlib.Core.Path.{_≡_, refl, sym, ap, ap₂, _∙_}
-use mathlib.Core.Bool.{Bool, true, false, cond, not, _&&_, _||_}
+use mathlib.Core.Path.{_≡_, refl, sym, ap₂, _∙_}
+use mathlib.Core.Bool.{Bool, true, false, cond, not}
 use mathlib.Core.List.{List, [], _∷_}
-use lib.Dec.{eqb, leb, ltb}
-use lib.ListN.{length, getD}
+use lib.Dec.{eqb, ltb}
+use lib.ListN.{length}
 use borrow.Author.Tests.{eq-eqb, ne-eqb, eqb-true, eqb-false, lt-ltb, le-ltb, le-leb, lt-leb, ltb-false}
-use Rattle.columns.specs.Lists.{_!_, tab, total, one, leading, allOf, anyOf, any}
-use Rattle.columns.proofs.Tests.{or-true, none-of, any-false}
-use Rattle.columns.proofs.Sums.{total-le, total-le-total}
+use Rattle.columns.specs.Lists.{_!_, tab, total, one, allOf, anyOf, any}
+use Rattle.columns.proofs.Tests.{none-of, any-false, some-of, or-none}
+use Rattle.columns.proofs.Sums.{total-le, total-le-total, leading-within}
 use Rattle.index.specs.Copied.{Ids}
 use Rattle.rules.specs.declared.ReferencePolicy.{ReferencePolicy}
 use Rattle.rules.specs.Types.{keeps}
 use Rattle.rules.specs.Input.{copiedId}
-use Rattle.rules.specs.Edges.{Ref, refWeak}
+use Rattle.rules.specs.Edges.{refWeak}
 use Rattle.edge_append.specs.Held.{SlotsIn, slotWith, copiedSlot, copiedSlots}
 use Rattle.edge_append.specs.Raw.{bytesId, slotEnds, slotsRead, rawSlot, rawSlots}
-use Rattle.need_weak.specs.Pairs.{pairTo, pairsIn, copiedPairs, copiedTotal, rawPairs, rawTotal, weakAt, plainWeak, mostPairs, mostWeak}
+use Rattle.need_weak.specs.Pairs.{pairsIn, copiedPairs, copiedTotal, rawPairs, rawTotal, weakAt, plainWeak, mostPairs, mostWeak}
 use Rattle.need_weak.proofs.Counting.{slot-pair, slot-kept, class-kept, pairs-tab, pair-few, none-in}
 
 pub weak-one : (weak : ℕ) → weak ≡ 1 → 1 ≡ one (eqb weak 1)
@@ -28,20 +28,9 @@ weak-one weak h = rw (eq-eqb weak 1 h)
 pub weak-none : (weak : ℕ) → (weak ≡ 1 → ⊥) → 0 ≡ one (eqb weak 1)
 weak-none weak h = rw (ne-eqb weak 1 h)
 
-pub one-few : (b : Bool) → one b ≤ 1
-one-few true = omega arith
-one-few false = omega arith
-
 -- one slot more
 pub weak-more : (weak : List ℕ) (first k : ℕ) {n r : ℕ} → n ≡ total (weakAt weak first) k → r ≡ one (eqb (weak ! (first + k)) 1) → n + r ≡ total (weakAt weak first) (k + 1)
 weak-more weak first k e d = rw (add-one k, e, d)
-
--- one of several tests holds
-some-of : (ts : List Bool) (i : ℕ) → getD ts i false ≡ true → anyOf ts ≡ true
-unfolding anyOf
-some-of [] i e = e
-some-of (t ∷ ts) zero e = rw e
-some-of (t ∷ ts) (suc i) e = rw (some-of ts i e) (or-true t)
 
 -- Whether a class is of kind none and may have a weak slot, by the tests in their order;
 module _ (kinds starts ends weak : List ℕ) (class : ℕ) where
@@ -70,26 +59,13 @@ module _ (kinds starts ends weak : List ℕ) (class : ℕ) where
   unfolding plainWeak anyOf
   slots-told z s e f g o w n =
       rw (n, eq-eqb (kinds ! class) 0 z, lt-leb (length starts) class s, lt-leb (length ends) class e, le-ltb (ends ! class) (starts ! class) (omega arith), le-ltb (length weak) (ends ! class) (omega arith), f, g)
-      (sym (last-test (ltb 0 (total (weakAt weak (starts ! class)) (ends ! class - starts ! class)))))
-    where
-      last-test : (b : Bool) → b || false ≡ b
-      last-test true = refl
-      last-test false = refl
+      (sym (or-none (ltb 0 (total (weakAt weak (starts ! class)) (ends ! class - starts ! class)))))
 
   -- and where no class is such a one, one of kind none has no weak slot.
   plain-none : any (plainWeak kinds starts ends weak) (length kinds) ≡ false → class < length kinds → eqb (kinds ! class) 0 ≡ true
       → total (weakAt weak (starts ! class)) (ends ! class - starts ! class) ≡ 0
   unfolding plainWeak
   plain-none e l z = omega (arith, ltb-false 0 (total (weakAt weak (starts ! class)) (ends ! class - starts ! class)) (none-of _ (rw z at (any-false (plainWeak kinds starts ends weak) (length kinds) class e l)) 4))
-
--- one class more
-pub none-yet : (t : ℕ → Bool) → any t 0 ≡ false
-unfolding any
-none-yet t = refl
-
-pub none-more : (t : ℕ → Bool) (k : ℕ) → any t k ≡ false → t k ≡ false → any t (k + 1) ≡ false
-unfolding any
-none-more t k e h = rw (add-one k, e) h
 
 -- what a test of both tells, and a choice between none and none
 both-hold : (b mixed : Bool) → cond b (not mixed) false ≡ true → (b ≡ true) × (mixed ≡ false)
@@ -142,14 +118,6 @@ slot-most ids labels weak place id = go (eqb (weak ! place) 1) refl
     go : (b : Bool) → eqb (weak ! place) 1 ≡ b → length (refWeak ids (slotWith labels weak false place id)) ≤ one b
     go true e = omega (arith, slot-pair ids labels weak place id (eqb-true (weak ! place) 1 e), pair-few ids id)
     go false e = omega (arith, slot-kept ids labels weak place id (eqb-false (weak ! place) 1 e))
-
-leading-within : (t : ℕ → Bool) (n : ℕ) → leading t n ≤ n
-leading-within t zero = omega arith
-leading-within t (suc n) = go (eqb (leading t n) n && t n) (leading-within t n)
-  where
-    go : (b : Bool) → leading t n ≤ n → cond b (suc n) (leading t n) ≤ suc n
-    go true l = omega arith
-    go false l = omega arith
 
 total-within : (f : ℕ → ℕ) (m n : ℕ) → m ≤ n → total f m ≤ total f n
 total-within f m n l = let e : n ≡ m + (n - m) = omega arith in rw e (total-le-total f m (n - m))

@@ -1,21 +1,21 @@
 -- Weak pairs counted slot by slot: which slots give one, and one slot more. Assumes nothing.
-use Prim.Native.Nat.{ℕ, zero, suc, _+_, _-_, _≤_, _<_}
+use Prim.Native.Nat.{ℕ, _+_, _-_, _≤_}
 use native.Mathlib.Nat.{add-zero}
 use native.Mathlib.Numerals.{add-one}
-use native.Mathlib.Omega.{arith}
 use mathlib.Core.Path.{_≡_, refl, sym, ap, ap₂, _∙_}
 use mathlib.Core.Bool.{Bool, true, false, cond, not, _||_}
-use mathlib.Core.List.{List, [], _∷_}
+use mathlib.Core.List.{List, []}
 use mathlib.Core.Option.{Option, none, some}
 use lib.Dec.{eqb}
 use lib.ListN.{length}
 use borrow.Author.Tests.{eq-eqb, ne-eqb}
-use Rattle.columns.specs.Lists.{_!_, tab, find, total, sum}
+use Rattle.columns.specs.Lists.{_!_, tab, find, total}
 use Rattle.columns.proofs.Sums.{length-flat, sum-tab, total-none}
 use Rattle.index.specs.Copied.{Ids}
 use Rattle.rules.specs.declared.ReferencePolicy.{ReferencePolicy}
 use Rattle.rules.specs.Types.{keeps}
 use Rattle.rules.specs.Edges.{Kind, slot, element, static, loader, Ref, Outcome, outcome, settled, absent, nothing, weakOf, refWeak}
+use Rattle.rules.proofs.Bounds.{weak-few}
 use Rattle.edge_append.specs.Append.{refOf, weakIn}
 use Rattle.edge_append.specs.Held.{keptOf, slotWith, copiedSlot, copiedSlots}
 use Rattle.edge_append.specs.Raw.{rawSlot, rawSlots, slotsRead}
@@ -88,13 +88,7 @@ module _ (ids : List ℕ) (f : ℕ → Ref) (k : ℕ) {n : ℕ} (e : n ≡ pairs
 
 pub pair-few : (ids : List ℕ) (id : ℕ) → pairTo ids id ≤ 1
 unfolding pairTo
-pair-few ids id = go (outcome ids (refOf 0 0 false id))
-  where
-    go : (u : Outcome) → length (weakOf u) ≤ 1
-    go (Outcome.edge t) = omega arith
-    go (Outcome.weak t) = omega arith
-    go Outcome.missing = omega arith
-    go Outcome.nothing = omega arith
+pair-few ids id = weak-few (outcome ids (refOf 0 0 false id))
 
 -- where no reference gives a pair, there is none
 pub none-in : (ids : List ℕ) (f : ℕ → Ref) (n : ℕ) → ((k : ℕ) → refWeak ids (f k) ≡ []) → 0 ≡ pairsIn ids (tab f n)

@@ -1,16 +1,14 @@
 -- The counts are the need of buffer 2. Assumes nothing.
-use Prim.Native.Nat.{ℕ, zero, suc, _+_, _-_}
-use mathlib.Core.Path.{_≡_, refl, sym, ap, ap₂, _∙_}
+use Prim.Native.Nat.{ℕ, _+_, _-_}
+use mathlib.Core.Path.{_≡_, refl, sym, ap, _∙_}
 use mathlib.Core.Bool.{Bool, true, false, cond}
-use mathlib.Core.List.{List, [], _∷_, _++_, map, append-nil}
-use lib.Dec.{eqb}
+use mathlib.Core.List.{List, [], _∷_, _++_, append-nil}
 use lib.ListN.{length, length-map}
-use borrow.Author.Tests.{eq-eqb}
-use Rattle.columns.specs.Lists.{_!_, collect, tab, places, leading, total, flat, sum, sort}
-use Rattle.columns.proofs.Every.{Every, every-append, every-collect, every-flat, every-places, every-tab}
-use Rattle.columns.proofs.Sums.{sum-one, sum-sort, length-collect, flat-append, total-ext}
+use Rattle.columns.specs.Lists.{_!_, collect, tab, total, flat}
+use Rattle.columns.proofs.Every.{Every, every-append, every-collect, every-flat, every-tab}
+use Rattle.columns.proofs.Sums.{length-collect, flat-append, total-ext, leading-all, leading-ext, length-sort}
 use Rattle.rules.specs.Types.{keeps}
-use Rattle.rules.specs.Input.{Input, Schema, Copied, Raw, Route, Route.copied, Route.raw, objectCount, slotCount, readSlots, slotFits, fits, slotKept, slotId, idAt, rawId, classesAt, isObjectStatic, staticTotal}
+use Rattle.rules.specs.Input.{Input, Schema, Copied, Raw, Route.copied, Route.raw, objectCount, slotCount, readSlots, slotFits, fits, slotKept, slotId, idAt, rawId, classesAt, isObjectStatic, staticTotal}
 use Rattle.rules.specs.Edges.{Ref, Pair, pairLe, pairsOf, weakPairs, weakTargets, graph, refs, slotRefs, otherRefs, slotRef, elementRef, staticRef, staticRefs, loaderRef, classRefs, outcome, refWeak}
 use Rattle.rules.specs.Needs.{needWeak}
 use Rattle.edge_append.specs.Append.{weakIn}
@@ -18,15 +16,6 @@ use Rattle.edge_append.specs.Held.{SlotsIn, keptOf, slotWith, copiedSlot, copie
 use Rattle.edge_append.specs.Raw.{bytesId, slotEnds, slotsRead, rawSlot, rawSlots}
 use Rattle.need_weak.specs.Pairs.{pairsIn, copiedPairs, copiedTotal, rawPairs, rawTotal}
 use Rattle.need_weak.proofs.Counting.{kept-none, pairs-tab}
-
--- "Every slot of the copied route counts as fitting"; and tests that agree, by the raw one.
-leading-all : (t : ℕ → Bool) (n : ℕ) → ((k : ℕ) → t k ≡ true) → leading t n ≡ n
-leading-all t zero h = refl
-leading-all t (suc n) h = rw (leading-all t n h, h n, eq-eqb n n refl)
-
-leading-ext : (t u : ℕ → Bool) (n : ℕ) → ((k : ℕ) → t k ≡ u k) → leading t n ≡ leading u n
-leading-ext t u zero h = refl
-leading-ext t u (suc n) h = rw (leading-ext t u n h, h n)
 
 -- references that are kept give no weak pair
 all-kept : (ids : List ℕ) (rs : List Ref) → Every (λ (r : Ref). r .kept ≡ true) rs → flat (refWeak ids) rs ≡ []
@@ -67,9 +56,6 @@ module _ (x : Input) (o : ℕ) where
       ∙ pairs-tab (x .objects .ids) (slotRef x o) (readSlots x o)
 
 -- The need of buffer 2 is the sum over the objects.
-length-sort : {A : Type 0} (le : A → A → Bool) (xs : List A) → length (sort le xs) ≡ length xs
-length-sort le xs = sym (sum-one (sort le xs)) ∙ sum-sort (λ a. 1) le xs ∙ sum-one xs
-
 need-total : (x : Input) → needWeak x ≡ total (λ o. length (weakTargets x o)) (objectCount x)
 unfolding needWeak graph weakPairs
 need-total x =

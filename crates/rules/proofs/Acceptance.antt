@@ -1,27 +1,27 @@
 -- What acceptance gives, by name. Assumes nothing.
-use Prim.Native.Nat.{ℕ, zero, suc, _+_, _-_, _≤_, _<_}
-use native.Mathlib.Nat.{not-suc-le-zero, add-suc}
-use native.Mathlib.Numerals.{add-one}
+use Prim.Native.Nat.{ℕ, suc, _+_, _-_, _≤_, _<_}
+use native.Mathlib.Nat.{not-suc-le-zero}
 use native.Mathlib.Omega.{arith}
 use native.Mathlib.Decide.{decLt}
 use mathlib.Core.Path.{_≡_, refl, sym, ap, _∙_}
-use mathlib.Core.Bool.{Bool, true, false, cond, false≢true}
+use mathlib.Core.Bool.{Bool, true, false, cond, not, false≢true}
 use mathlib.Core.List.{List, [], _∷_, _++_}
 use mathlib.Core.Option.{none, some}
 use lib.Dec.{eqb}
 use lib.ListN.{length}
-use borrow.Author.Tests.{eqb-true, eqb-false, leb-false, ltb-false, lt-ltb, not-false}
-use Rattle.columns.specs.Lists.{_!_, places, find}
+use borrow.Author.Tests.{eqb-true, eqb-false, leb-false, ltb-false, lt-ltb}
+use Rattle.columns.specs.Lists.{_!_, places, find, anyOf}
 use Rattle.columns.specs.Columns.{accepts}
 use Rattle.columns.specs.Ranks.{Rises}
 use Rattle.columns.proofs.Tests.{none-of, each-of, second-fails, any-false, append-empty, places-none, one-place}
+use Rattle.columns.proofs.Ranks.{steps-rise}
 use Rattle.columns.proofs.Search.{find-none, find-at}
 use Rattle.rules.specs.Input.{Input, Copied, Raw, Route.copied, Route.raw, objectCount, classCount, slotCount, elementCount, slotTotal, slotPlace}
 use Rattle.rules.specs.Input.{staticTotal, staticPlace, classOf, slotOf, foundAt, classesAt}
 use Rattle.rules.specs.Edges.{graph}
 use Rattle.rules.specs.Places.{placeCount}
 use Rattle.rules.specs.Needs.{Rooms, shortOfBuild}
-use Rattle.rules.specs.Verdict.{firstOf, at, once, schemaLengths, routeLengths, badLengths, badLimit, overLimit, badObject, badClass, badSlot}
+use Rattle.rules.specs.Verdict.{firstOf, at, once, badLengths, badLimit, limits, overLimit, badSize, badObject, badClass, badSlot, falls, badCode, badEscape}
 use Rattle.rules.specs.Verdict.{badStatic, badFind, badDumped, foundBadly, badCopied, badSpan, badPart, badRoot, overPlaces, faults, checkSays, counts}
 use Rattle.rules.specs.Verdict.{buildSays}
 
@@ -53,14 +53,18 @@ pub once-empty : (b : Bool) → once b ≡ [] → b ≡ false
 once-empty true e = let z : _≡_ {A = ℕ} 0 1 = cc in absurd (omega arith)
 once-empty false e = refl
 
--- The tests that an accepted input passed.
-pub record Passed (x : Input) : Type 0 where
+-- The tests before ROOT and PLACES, which counting the places asks;
+pub record Sound (x : Input) : Type 0 where
   pub lengths : badLengths x ≡ false
   pub limits : badLimit x ≡ false
   pub object : (o : ℕ) → o < objectCount x → badObject x o ≡ false
   pub class : (c : ℕ) → c < classCount (x .schema) → badDumped x c ≡ false
   pub copied : badCopied (x .route) ≡ []
   pub span : (o : ℕ) → o < objectCount x → badSpan x o ≡ false
+
+-- and all the tests that an accepted input passed.
+pub record Passed (x : Input) : Type 0 where
+  pub sound : Sound x
   pub root : (i : ℕ) → i < length (x .roots) → badRoot (objectCount x) (x .roots) i ≡ false
   pub few-places : overPlaces (placeCount x) ≡ false
 
@@ -75,12 +79,14 @@ passed x e =
     let e3 = append-empty _ (at 3 (places (badObject x) (objectCount x))) (e4 .0) in
     let e2 = append-empty (at 1 (once (badLengths x))) (at 2 (once (badLimit x))) (e3 .0) in
     record {
-      lengths = once-empty _ (at-empty 1 _ (e2 .0));
-      limits = once-empty _ (at-empty 2 _ (e2 .1));
-      object = λ o h. places-none (badObject x) _ o (at-empty 3 _ (e3 .1)) h;
-      class = λ c h. places-none (badDumped x) _ c (at-empty 4 _ (e4 .1)) h;
-      copied = at-empty 5 _ (e5 .1);
-      span = λ o h. places-none (badSpan x) _ o (at-empty 6 _ (e6 .1)) h;
+      sound = record {
+        lengths = once-empty _ (at-empty 1 _ (e2 .0));
+        limits = once-empty _ (at-empty 2 _ (e2 .1));
+        object = λ o h. places-none (badObject x) _ o (at-empty 3 _ (e3 .1)) h;
+        class = λ c h. places-none (badDumped x) _ c (at-empty 4 _ (e4 .1)) h;
+        copied = at-empty 5 _ (e5 .1);
+        span = λ o h. places-none (badSpan x) _ o (at-empty 6 _ (e6 .1)) h;
+      };
       root = λ i h. places-none (badRoot (objectCount x) (x .roots)) _ i (at-empty 7 _ (e7 .1)) h;
       few-places = once-empty _ (at-empty 8 _ (e8 .1));
     }
@@ -111,18 +117,49 @@ module _ (x : Input) (r : Rooms) (e : accepts (buildSays x r) ≡ true) where
   unfolding buildSays
   build-says = ap (λ (fs : List (List ℕ)). firstOf fs (counts (x .schema) (graph x))) nothing-wrong
 
--- Names are few, so that field labels are below `LOADER`.
-pub names-few : (x : Input) → Passed x → x .schema .names ≤ 16777216
-unfolding badLimit overLimit
-names-few x h = ltb-false _ _ (none-of _ (none-of _ (h .limits) 0) 1)
+-- The limits, by name. Names are few, so that field labels are below `LOADER`.
+module _ (x : Input) (h : Sound x) where
+  pub limits-good : overLimit (objectCount x) (x .schema) ≡ false
+  unfolding badLimit
+  limits-good = none-of _ (h .limits) 0
 
-pub objects-few : (x : Input) → Passed x → objectCount x ≤ 67108864
-unfolding badLimit overLimit
-objects-few x h = ltb-false _ _ (none-of _ (none-of _ (none-of _ (h .limits) 0) 0) 0)
+  pub objects-few : objectCount x ≤ 67108864
+  unfolding overLimit limits
+  objects-few = ltb-false _ _ (none-of _ (none-of _ limits-good 0) 0)
+
+  pub classes-few : classCount (x .schema) ≤ 67108864
+  unfolding overLimit limits
+  classes-few = ltb-false _ _ (none-of _ (none-of _ limits-good 0) 1)
+
+  pub names-few : x .schema .names ≤ 16777216
+  unfolding overLimit limits
+  names-few = ltb-false _ _ (none-of _ limits-good 1)
+
+  pub slot-rows-few : length (x .schema .slots .offsets) ≤ 268435456
+  unfolding overLimit limits
+  slot-rows-few = ltb-false _ _ (none-of _ (none-of _ limits-good 2) 0)
+
+  pub static-rows-few : length (x .schema .statics .names) ≤ 268435456
+  unfolding overLimit limits
+  static-rows-few = ltb-false _ _ (none-of _ (none-of _ limits-good 2) 1)
+
+  pub size-good : badSize (x .route) ≡ false
+  unfolding badLimit
+  size-good = none-of _ (h .limits) 1
+
+-- an id size that is allowed is at most 8
+pub size-allowed : (r : Raw) → badSize (raw r) ≡ false → r .size ≤ 8
+unfolding badSize anyOf
+size-allowed r h = go (eqb (r .size) 4) refl (eqb (r .size) 8) refl h
+  where
+    go : (a : Bool) → eqb (r .size) 4 ≡ a → (b : Bool) → eqb (r .size) 8 ≡ b → not (anyOf (a ∷ b ∷ [])) ≡ false → r .size ≤ 8
+    go true ea b eb h = omega (arith, eqb-true (r .size) 4 ea)
+    go false ea true eb h = omega (arith, eqb-true (r .size) 8 eb)
+    go false ea false eb h = absurd (false≢true (sym h))
 
 -- The slots and statics of a class.
-module _ (x : Input) (h : Passed x) (c : ℕ) (l : c < classCount (x .schema)) where
-  class-good : badClass (x .schema) c ≡ false
+module _ (x : Input) (h : Sound x) (c : ℕ) (l : c < classCount (x .schema)) where
+  pub class-good : badClass (x .schema) c ≡ false
   unfolding badDumped
   class-good = none-of _ (h .class c l) 0
 
@@ -134,7 +171,15 @@ module _ (x : Input) (h : Passed x) (c : ℕ) (l : c < classCount (x .schema)) w
   unfolding badClass badStatic
   static-name k m = leb-false _ _ (none-of _ (any-false (badStatic (x .schema) c) _ k (none-of _ class-good 7) m) 0)
 
-  -- the ranges of a class stand inside their columns
+  -- the ranges of a class do not end before they start, and stand inside their columns
+  pub slots-ordered : x .schema .classes .slotStart ! c ≤ x .schema .classes .slotEnd ! c
+  unfolding badClass
+  slots-ordered = ltb-false _ _ (none-of _ class-good 2)
+
+  pub statics-ordered : x .schema .classes .staticStart ! c ≤ x .schema .classes .staticEnd ! c
+  unfolding badClass
+  statics-ordered = ltb-false _ _ (none-of _ class-good 4)
+
   pub slots-in : x .schema .classes .slotEnd ! c ≤ length (x .schema .slots .offsets)
   unfolding badClass
   slots-in = ltb-false _ _ (none-of _ class-good 3)
@@ -144,26 +189,12 @@ module _ (x : Input) (h : Passed x) (c : ℕ) (l : c < classCount (x .schema)) w
   statics-in = ltb-false _ _ (none-of _ class-good 5)
 
   pub slots-few : slotTotal (x .schema) c ≤ 268435456
-  unfolding badLimit overLimit
-  slots-few =
-      omega (
-        arith,
-        slots-in,
-        ltb-false 268435456 (length (x .schema .slots .offsets))
-            (none-of _ (none-of _ (none-of _ (h .limits) 0) 2) 0),
-      )
+  slots-few = omega (arith, slots-in, slot-rows-few x h)
 
   pub statics-few : staticTotal (x .schema) c ≤ 268435456
-  unfolding badLimit overLimit
-  statics-few =
-      omega (
-        arith,
-        statics-in,
-        ltb-false 268435456 (length (x .schema .statics .names))
-            (none-of _ (none-of _ (none-of _ (h .limits) 0) 2) 1),
-      )
+  statics-few = omega (arith, statics-in, static-rows-few x h)
 
-module _ (x : Input) (h : Passed x) where
+module _ (x : Input) (h : Sound x) where
   -- No object has id 0, and ids rise.
   pub no-zero : find (x .objects .ids) 0 ≡ none
   unfolding badObject
@@ -174,12 +205,8 @@ module _ (x : Input) (h : Passed x) where
   step-up i l =
       leb-false (x .objects .ids ! suc i) (x .objects .ids ! i) (second-fails _ _ (none-of _ (h .object (suc i) l) 1) (lt-ltb 0 (suc i) (omega arith)))
 
-  climb : (i k : ℕ) → i + suc k < objectCount x → x .objects .ids ! i < x .objects .ids ! (i + suc k)
-  climb i zero l = rw (add-one i) (step-up i (omega arith))
-  climb i (suc k) l = rw (add-suc i (suc k)) (omega (arith, climb i k (omega arith), step-up (i + suc k) (omega arith)))
-
   pub ids-rise : Rises (x .objects .ids)
-  ids-rise i j l m = let e : j ≡ i + suc (j - suc i) = omega arith in rw e (climb i (j - suc i) (omega arith))
+  ids-rise = steps-rise (x .objects .ids) step-up
 
   pub id-found : (o : ℕ) → o < objectCount x → find (x .objects .ids) (x .objects .ids ! o) ≡ some o
   id-found o l = find-at (x .objects .ids) (x .objects .ids ! o) o ids-rise l refl
@@ -256,37 +283,20 @@ module _ (x : Input) (h : Passed x) where
   unfolding badPart
   raw-span r e o l k = ltb-false _ _ (none-of _ (rw e at (part-good o l k)) 0)
 
-  -- Roots are objects, and the places are within the limit.
+  -- A copied code reads back.
+  pub codes-good : (c : Copied) → x .route ≡ copied c → (p : ℕ) → p < length (c .ids .codes) → badCode (c .ids) p ≡ false
+  unfolding badCopied
+  codes-good c e p l =
+      let e0 : badCopied (copied c) ≡ [] = ap badCopied (sym e) ∙ h .copied in
+      let falling = places (falls (c .ids .places)) (length (c .ids .places)) in
+      let codes = places (badCode (c .ids)) (length (c .ids .codes)) in
+      let e1 = append-empty (falling ++ codes) (places (badEscape (c .ids)) (length (c .ids .places))) e0 in
+      places-none (badCode (c .ids)) _ p (append-empty falling codes (e1 .0) .1) l
+
+-- Roots are objects, and the places are within the limit.
+module _ (x : Input) (h : Passed x) where
   pub root-in : (i : ℕ) → i < length (x .roots) → x .roots ! i < objectCount x
   root-in i l = leb-false _ _ (h .root i l)
 
   pub places-few : placeCount x ≤ 268435456
   places-few = ltb-false _ _ (h .few-places)
-
-  -- The columns of one table have one length.
-  pub objects-even : (length (x .objects .kinds) ≡ objectCount x) × (length (x .objects .classes) ≡ objectCount x) ×
-      (length (x .objects .lengths) ≡ objectCount x)
-  unfolding badLengths
-  objects-even =
-      let d = none-of _ (none-of _ (h .lengths) 0) in
-      (eqb-true _ _ (not-false _ (d 0)), eqb-true _ _ (not-false _ (d 1)), eqb-true _ _ (not-false _ (d 2)))
-
-  pub slots-even : (length (x .schema .slots .labels) ≡ length (x .schema .slots .offsets)) ×
-      (length (x .schema .slots .weak) ≡ length (x .schema .slots .offsets))
-  unfolding badLengths schemaLengths
-  slots-even = let d = none-of _ (none-of _ (none-of _ (h .lengths) 1) 2) in (eqb-true _ _ (not-false _ (d 0)), eqb-true _ _ (not-false _ (d 1)))
-
-  pub statics-even : (length (x .schema .statics .types) ≡ length (x .schema .statics .names)) ×
-      (length (x .schema .statics .values) ≡ length (x .schema .statics .names))
-  unfolding badLengths schemaLengths
-  statics-even = let d = none-of _ (none-of _ (none-of _ (h .lengths) 1) 3) in (eqb-true _ _ (not-false _ (d 0)), eqb-true _ _ (not-false _ (d 1)))
-
-  pub copied-even : (c : Copied) → x .route ≡ copied c → (length (c .ids .ids) ≡ length (c .ids .places)) × (length (c .starts) ≡ objectCount x)
-  unfolding badLengths routeLengths
-  copied-even c e =
-      let d = rw e at (none-of _ (h .lengths) 2) in
-      (eqb-true _ _ (not-false _ (none-of _ (none-of _ d 0) 0)), eqb-true _ _ (not-false _ (none-of _ (none-of _ d 1) 0)))
-
-  pub raw-even : (r : Raw) → x .route ≡ raw r → (length (r .starts) ≡ objectCount x) × (length (r .lengths) ≡ objectCount x)
-  unfolding badLengths routeLengths
-  raw-even r e = let d = none-of _ (rw e at (none-of _ (h .lengths) 2)) in (eqb-true _ _ (not-false _ (d 0)), eqb-true _ _ (not-false _ (d 1)))

@@ -20,7 +20,7 @@ one-kind element n = omega arith
 one-kind static n = omega arith
 one-kind loader n = omega arith
 
-same-edge : (l : ℕ) (u : Outcome) → isEdge u ≡ length (edgeOf l u)
+pub same-edge : (l : ℕ) (u : Outcome) → isEdge u ≡ length (edgeOf l u)
 same-edge l (edge t) = refl
 same-edge l (weak t) = refl
 same-edge l missing = refl

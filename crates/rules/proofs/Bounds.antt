@@ -23,15 +23,15 @@ total-most f k zero h = omega arith
 total-most f k (suc n) h = rw (suc-mul n k) (omega (arith, total-most f k n (λ i l. h i (omega arith)), h n (omega arith)))
 
 -- of each reference at most one is weak, and one missing
+pub weak-few : (u : Outcome) → length (weakOf u) ≤ 1
+weak-few (edge t) = omega arith
+weak-few (weak t) = omega arith
+weak-few missing = omega arith
+weak-few nothing = omega arith
+
 weak-most : (ids : List ℕ) (rs : List Ref) → length (flat (refWeak ids) rs) ≤ length rs
 weak-most ids [] = omega arith
-weak-most ids (r ∷ rs) = omega (arith, length-append (refWeak ids r) (flat (refWeak ids) rs), weak-most ids rs, go (outcome ids r))
-  where
-    go : (u : Outcome) → length (weakOf u) ≤ 1
-    go (edge t) = omega arith
-    go (weak t) = omega arith
-    go missing = omega arith
-    go nothing = omega arith
+weak-most ids (r ∷ rs) = omega (arith, length-append (refWeak ids r) (flat (refWeak ids) rs), weak-most ids rs, weak-few (outcome ids r))
 
 missing-most : (ids : List ℕ) (rs : List Ref) → sum (refMissing ids) rs ≤ length rs
 missing-most ids [] = omega arith
@@ -49,7 +49,7 @@ module _ (x : Input) (h : Passed x) where
   class-most c l =
       let many : length (collect (staticRefs (x .schema) c) (staticTotal (x .schema) c)) ≤ staticTotal (x .schema) c * 1
       = rw (length-collect (staticRefs (x .schema) c) (staticTotal (x .schema) c)) (total-most _ 1 _ (λ k m. go k (isObjectStatic (x .schema) c k))) in
-      omega (arith, length-append (collect (staticRefs (x .schema) c) (staticTotal (x .schema) c)) (loaderRef (x .schema) c ∷ []), statics-few x h c l)
+      omega (arith, length-append (collect (staticRefs (x .schema) c) (staticTotal (x .schema) c)) (loaderRef (x .schema) c ∷ []), statics-few x (h .sound) c l)
     where
       go : (k : ℕ) (b : Bool) → length (cond b (staticRef (x .schema) c k ∷ []) []) ≤ 1
       go k true = omega arith
@@ -64,7 +64,7 @@ module _ (x : Input) (h : Passed x) where
           → length (flat (classRefs (x .schema)) cs) ≤ 268435457
       go [] e q = omega arith
       go (c ∷ cs) e q =
-          let only : c ∷ cs ≡ c ∷ [] = sym e ∙ one-class x h o c l (q .0 .0) (q .0 .1) in
+          let only : c ∷ cs ≡ c ∷ [] = sym e ∙ one-class x (h .sound) o c l (q .0 .0) (q .0 .1) in
           omega (arith, ap (λ (cs : List ℕ). length (flat (classRefs (x .schema)) cs)) only, length-append (classRefs (x .schema) c) [], class-most c (q .0 .0))
 
   -- An object has at most 3 × 268,435,456 + 1 references.
@@ -78,13 +78,13 @@ module _ (x : Input) (h : Passed x) where
         tab-length (slotRef x o) (readSlots x o),
         tab-length (elementRef x o) (elementCount x o),
         read-le x o,
-        slotCount-few x h o l,
-        elements-few x h o l,
+        slotCount-few x (h .sound) o l,
+        elements-few x (h .sound) o l,
         classes-most o l,
       )
 
   in-all : (k : ℕ) → k ≤ objectCount x * 805306369 → k < 2 ^ 56
-  in-all k l = omega (arith, mul-le-mul-right 805306369 (objects-few x h))
+  in-all k l = omega (arith, mul-le-mul-right 805306369 (objects-few x (h .sound)))
 
   pub weak-below : length (graph x .weakFrom) < 2 ^ 56
   unfolding weakTargets

@@ -19,11 +19,11 @@ use Rattle.rules.specs.Types.{ARRAY-ELEMENT, isElement}
 use Rattle.rules.specs.Input.{Schema}
 use Rattle.rules.specs.Edges.{Parts}
 use Rattle.rules.specs.Labels.{Coded, after, expected, labelCode, codesOf, fieldCode, isEscaped, codesFor, coded, readLabel, expectedAt, exactLabel}
-use Rattle.rules.specs.Labels.{coarseLabel, fieldsOf, listed, ranked, named}
+use Rattle.rules.specs.Labels.{coarseLabel, fieldsOf, listed, ranked, named, own}
 use Rattle.rules.specs.Needs.{objectsOf, fieldsFor}
 use Rattle.rules.specs.Parts.{degree}
 use Rattle.rules.specs.Questions.{coarse, labelReads}
-use Rattle.rules.proofs.Meets.{Meets, own}
+use Rattle.rules.proofs.Meets.{Meets}
 
 not-false : (b : Bool) → not b ≡ true → b ≡ false
 not-false true e = sym e

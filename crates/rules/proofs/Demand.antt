@@ -142,7 +142,7 @@ constant false xs = sum-none xs
 pub held-edges : (x : Input) → Passed x → (o : ℕ) → held x o ≡ length (edgesOf x o) + length (weakTargets x o) + lost x o
 unfolding held edgesOf weakTargets missingAt
 held-edges x h o =
-    tally-is nonZero (isThere (x .objects .ids)) x o ∙ refs-held (x .objects .ids) (no-zero x h) (refs x o)
+    tally-is nonZero (isThere (x .objects .ids)) x o ∙ refs-held (x .objects .ids) (no-zero x (h .sound)) (refs x o)
     ∙ ap (λ (n : ℕ). length (edgesOf x o) + length (weakTargets x o) + n) (sym (lost-missing x o))
 
 module _ (x : Input) where

@@ -57,7 +57,7 @@ module _ (x : Input) where
   unfolding graph weakPairs
   weak-smallest o l = smallest-sort o (collect (pairsOf x) n) ∙ ap smallest (mine-all o n l)
 
-  weak-even : length (graph x .weakFrom) ≡ length (graph x .weakTo)
+  pub weak-even : length (graph x .weakFrom) ≡ length (graph x .weakTo)
   unfolding graph
   weak-even = length-map (weakPairs x) _ ∙ sym (length-map (weakPairs x) _)
 

@@ -16,8 +16,8 @@ use Rattle.columns.proofs.Sums.{part-at}
 use Rattle.columns.proofs.Tests.{none-of}
 use Rattle.index.specs.Copied.{Ids, ESCAPED, whole, escapeBack, readBack}
 use Rattle.rules.specs.Input.{Input, Raw, Route.raw, copiedId, bigEndian, rawId}
-use Rattle.rules.specs.Verdict.{badSize, badLimit}
-use Rattle.rules.proofs.Acceptance.{Passed}
+use Rattle.rules.specs.Verdict.{badSize}
+use Rattle.rules.proofs.Acceptance.{Passed, size-good}
 
 -- the value of an answer has 64 bits
 abbrev Fits : List ℕ → Type 0
@@ -73,14 +73,10 @@ raw-fits r p h =
     let few : length bs ≤ r .size = simp (length-take, length-drop) (omega arith) in
     omega (arith, bytes-below 0 bs (part-below (r .bytes) p (p + r .size) h), one-mul (256 ^ length bs), pow-le-pow-right {n = 256} (omega arith) few)
 
-size-good : (x : Input) → Passed x → badSize (x .route) ≡ false
-unfolding badLimit
-size-good x h = none-of _ (h .limits) 1
-
 -- So in an accepted input, where the size is 4 or 8, it has 64 bits.
 pub raw-64 : (x : Input) → Passed x → (r : Raw) → x .route ≡ raw r → ((i : ℕ) → r .bytes ! i < 256) → (p : ℕ) → rawId r p < 2 ^ 64
 unfolding badSize anyOf
-raw-64 x h r e bytes p = go (eqb (r .size) 4) refl (eqb (r .size) 8) refl (not-false _ (ap badSize (sym e) ∙ size-good x h))
+raw-64 x h r e bytes p = go (eqb (r .size) 4) refl (eqb (r .size) 8) refl (not-false _ (ap badSize (sym e) ∙ size-good x (h .sound)))
   where
     go : (a : Bool) → eqb (r .size) 4 ≡ a → (b : Bool) → eqb (r .size) 8 ≡ b → anyOf (a ∷ b ∷ []) ≡ true → rawId r p < 2 ^ 64
     go true s b t q = let z : r .size ≡ 4 = eqb-true (r .size) 4 s in let b : 256 ^ r .size

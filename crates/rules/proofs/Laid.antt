@@ -10,38 +10,30 @@ use lib.Dec.{eqb, leb, ltb}
 use lib.ListN.{length, getD, length-map}
 use lib.Seq.{ext-getD}
 use borrow.Author.Tests.{le-leb, lt-ltb, leb-false, ltb-false, eq-eqb}
-use Rattle.columns.specs.Lists.{_!_, collect, tab, flat, leading, total, part, find, sort, anyOf}
+use Rattle.columns.specs.Lists.{_!_, collect, tab, flat, total, part, find, sort, anyOf}
 use Rattle.columns.proofs.Lists.{tab-length, tab-at, map-at}
-use Rattle.columns.proofs.Sums.{flat-append, map-append, map-collect, length-collect, total-ext, part-collect, part-at}
+use Rattle.columns.proofs.Sums.{flat-append, map-append, map-collect, length-collect, total-ext, part-collect, part-at, leading-within}
 use Rattle.columns.proofs.Every.{Every, every-append, every-collect, every-flat, every-places, every-tab, every-map, every-index, every-sort, every-distinct}
 use Rattle.columns.proofs.Every.{every-at, sort-chain, chain-at}
-use Rattle.columns.proofs.Tests.{or-false}
+use Rattle.columns.proofs.Tests.{or-true, or-false}
 use Rattle.columns.proofs.Search.{find-get}
 use Rattle.rules.specs.Types.{LOADER, ARRAY-ELEMENT, isElement}
 use Rattle.rules.specs.Input.{Input, objectCount, classCount, slotCount, readSlots, elementCount, staticTotal, isObjectStatic, foundAt, classesAt}
 use Rattle.rules.specs.Edges.{Kind, slot, element, static, loader, Ref, Edge, Outcome, edge, weak, missing, nothing, settled, edgeOf, weakOf, outcome}
 use Rattle.rules.specs.Edges.{refEdge, refWeak, refs, slotRefs, otherRefs, slotRef, elementRef, staticRef, loaderRef, staticRefs, classRefs, edgesOf}
 use Rattle.rules.specs.Edges.{weakTargets, edges, offset, Pair, pairLe, pairsOf, weakPairs, distinctRoots, graph}
-use Rattle.rules.specs.Labels.{expected}
+use Rattle.rules.specs.Labels.{expected, own}
 use Rattle.rules.specs.Needs.{objectsOf}
 use Rattle.rules.specs.Parts.{degree, pairAt, partsFaults}
 use Rattle.rules.specs.Questions.{edgesAt}
 use Rattle.rules.proofs.Acceptance.{Passed, names-few, slot-small, static-name, elements-few, root-in}
 use Rattle.rules.proofs.Demand.{offset-at, degree-of}
 use Rattle.rules.proofs.Rising.{Rising, afterAll, rising-append, after-append, Fields, fields-rise, fields-after, rising-at}
-use Rattle.rules.proofs.Meets.{Meets, own, isNamed, no-faults}
-
-leading-le : (p : ℕ → Bool) (n : ℕ) → leading p n ≤ n
-leading-le p zero = le-refl 0
-leading-le p (suc n) = go (eqb (leading p n) n && p n) (leading-le p n)
-  where
-    go : (b : Bool) → leading p n ≤ n → cond b (suc n) (leading p n) ≤ suc n
-    go true h = le-refl _
-    go false h = omega arith
+use Rattle.rules.proofs.Meets.{Meets, isNamed, no-faults}
 
 pub read-le : (x : Input) (o : ℕ) → readSlots x o ≤ slotCount x o
 unfolding readSlots
-read-le x o = leading-le _ _
+read-le x o = leading-within _ _
 
 -- one more reference, of element n
 next-rises : (b : List ℕ) (n : ℕ) (u : Outcome) → Rising 0 b × (afterAll 0 b ≤ n)
@@ -137,7 +129,7 @@ module _ (x : Input) where
     module _ (P : ℕ → Type 0) (name : (l : ℕ) → l < x .schema .names → P l) where
       slots-are : (o : ℕ) → o < n → Every (λ (r : Ref). P (r .label)) (slotRefs x o)
       unfolding slotRefs slotRef
-      slots-are o l = every-tab (λ (r : Ref). P (r .label)) (slotRef x o) (readSlots x o) (λ k m. name _ (slot-small x h o k l (omega (arith, read-le x o))))
+      slots-are o l = every-tab (λ (r : Ref). P (r .label)) (slotRef x o) (readSlots x o) (λ k m. name _ (slot-small x (h .sound) o k l (omega (arith, read-le x o))))
 
       class-are : P LOADER → (c : ℕ) → c < classCount (x .schema) → Every (λ (r : Ref). P (r .label)) (classRefs (x .schema) c)
       unfolding classRefs staticRefs staticRef loaderRef
@@ -147,7 +139,7 @@ module _ (x : Input) where
           (q, tt)
         where
           go : (k : ℕ) → k < staticTotal (x .schema) c → (b : Bool) → Every (λ (r : Ref). P (r .label)) (cond b (staticRef (x .schema) c k ∷ []) [])
-          go k m true = (name _ (static-name x h c l k m), tt)
+          go k m true = (name _ (static-name x (h .sound) c l k m), tt)
           go k m false = tt
 
       classes-are : P LOADER → (o : ℕ) → Every (λ (r : Ref). P (r .label)) (flat (classRefs (x .schema)) (classesAt x o))
@@ -161,7 +153,7 @@ module _ (x : Input) where
       refs-are q e o l =
           every-append (λ (r : Ref). P (r .label)) (slotRefs x o) (otherRefs x o) (slots-are o l)
           (every-append (λ (r : Ref). P (r .label)) (tab (elementRef x o) (elementCount x o)) (flat (classRefs (x .schema)) (classesAt x o))
-          (every-tab (λ (r : Ref). P (r .label)) (elementRef x o) (elementCount x o) (λ k m. e k (omega (arith, elements-few x h o l))))
+          (every-tab (λ (r : Ref). P (r .label)) (elementRef x o) (elementCount x o) (λ k m. e k (omega (arith, elements-few x (h .sound) o l))))
           (classes-are q o))
 
       labels-are : P LOADER → ((k : ℕ) → k < 268435456 → P (ARRAY-ELEMENT + k)) → (o : ℕ) → o < n → Every P (map label (edgesOf x o))
@@ -174,7 +166,7 @@ module _ (x : Input) where
     edges-rise o l =
         let es = tab (elementRef x o) (elementCount x o) in
         let cs = flat (classRefs (x .schema)) (classesAt x o) in
-        let field : (l : ℕ) → l < x .schema .names → l < ARRAY-ELEMENT = λ l m. omega (arith, names-few x h) in
+        let field : (l : ℕ) → l < x .schema .names → l < ARRAY-ELEMENT = λ l m. omega (arith, names-few x (h .sound)) in
         let slots : Fields (lab (slotRefs x o)) = lab-keeps (λ l. l < ARRAY-ELEMENT) (slotRefs x o) (slots-are (λ l. l < ARRAY-ELEMENT) field o l) in
         let classes : Fields (lab cs) = lab-keeps (λ l. l < ARRAY-ELEMENT) cs (classes-are (λ l. l < ARRAY-ELEMENT) field (omega arith) o) in
         rw (lab-append (slotRefs x o) (es ++ cs), lab-append es cs)
@@ -265,10 +257,6 @@ module _ (x : Input) where
         (rw (le-leb LOADER LOADER (omega arith)) (or-true (ltb LOADER (x .schema .names))))
         (λ k q. rw (le-leb LOADER (ARRAY-ELEMENT + k) (omega arith)) (or-true (ltb (ARRAY-ELEMENT + k) (x .schema .names)))) o l)
         k (omega (arith, length-map (edgesOf x o) label))
-      where
-        or-true : (b : Bool) → b || true ≡ true
-        or-true true = refl
-        or-true false = refl
 
     pub label-wide : (e : ℕ) → e < length (graph x .labels) → graph x .labels ! e < 4294967296
     unfolding graph edges
@@ -277,7 +265,7 @@ module _ (x : Input) where
         wide : Every (λ l. l < 4294967296) (map label (collect (edgesOf x) n))
         wide = rw (map-collect label (edgesOf x) n)
             (every-collect (λ l. l < 4294967296) (λ o. map label (edgesOf x o)) n
-            (labels-are h (λ l. l < 4294967296) (λ l q. omega (arith, names-few x h)) (omega arith) (λ k q. omega arith)))
+            (labels-are h (λ l. l < 4294967296) (λ l q. omega (arith, names-few x (h .sound))) (omega arith) (λ k q. omega arith)))
 
     rising-own : (o k : ℕ) → o < n → k < length (edgesOf x o) → isElement (map label (edgesOf x o) ! k) ≡ true
         → expected (map label (edgesOf x o)) k ≤ map label (edgesOf x o) ! k - ARRAY-ELEMENT

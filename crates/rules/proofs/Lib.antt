@@ -1,5 +1,6 @@
 pub mod Types
 pub mod Worked
+pub mod Even
 pub mod Acceptance
 pub mod Ids
 pub mod Demand

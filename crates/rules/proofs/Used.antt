@@ -115,7 +115,8 @@ pub refused-coded : (says : List ℕ) → accepts says ≡ false → (s : Schema
 unfolding codedLeft leaves
 refused-coded says e s p l = rw e
 
-pub refused-left : (x : Input) (r : Rooms) → accepts (buildSays x r) ≡ false → buildLeft x r ≡ record {
+abbrev pub zeroBuild : Input → Rooms → BuildLeft
+zeroBuild x r = record {
   says = buildSays x r;
   targets = zeros (r .targets);
   labels = zeros (r .labels);
@@ -126,6 +127,8 @@ pub refused-left : (x : Input) (r : Rooms) → accepts (buildSays x r) ≡ false
   coded = zeroCoded (r .coded);
   account = noAccount;
 }
+
+pub refused-left : (x : Input) (r : Rooms) → accepts (buildSays x r) ≡ false → buildLeft x r ≡ zeroBuild x r
 unfolding buildLeft leaves
 refused-left x r e = rw (refused-coded (buildSays x r) e (x .schema) (graph x) (r .coded), e)
 

@@ -20,7 +20,7 @@ use Rattle.rules.specs.Labels.{exactLabel}
 use Rattle.rules.specs.Account.{cell, account}
 use Rattle.rules.specs.Demand.{tallyClass, tally, isLost, held, lost}
 use Rattle.rules.specs.Needs.{fieldsFor, labelColumns, needWeak, needRoots, needLong, needFields, needEscapes, shortLater, shortOfBuild}
-use Rattle.rules.specs.Verdict.{at, schemaLengths, routeLengths, badLengths, overLimit, badSize, badLimit, badObject, badSlot, badStatic, badClass}
+use Rattle.rules.specs.Verdict.{at, schemaLengths, routeLengths, badLengths, limits, overLimit, badSize, badLimit, badObject, badSlot, badStatic, badClass}
 use Rattle.rules.specs.Verdict.{badFind, badDumped, badCode, badEscape, badCopied, badPart, badSpan, faults, counts, buildSays}
 use Rattle.rules.specs.Parts.{inColumn, badOffsets, badLabel, badLabels, badTargets, badPair, partsFaults}
 use Rattle.rules.specs.Built.{codedLeft, buildLeft}
@@ -34,7 +34,7 @@ unfolding table graphCases enough empty tab places allOf anyOf any over padded a
     slotKept foundAt classesAt slotRef elementRef staticRef staticRefs loaderRef classRefs slotRefs otherRefs refs outcome edgesOf weakTargets missingAt edges
     offset weakPairs distinctRoots graph hasPlace refPlace unread placesOf placeCount named occurring listed ranked fieldsOf fieldCode codeTable codesOf
     codesFor coded readLabel expectedAt exactLabel cell account tallyClass tally isLost held lost fieldsFor labelColumns needWeak needRoots needLong needFields
-    needEscapes shortLater shortOfBuild at schemaLengths routeLengths badLengths overLimit badSize badLimit badObject badSlot badStatic badClass badFind
+    needEscapes shortLater shortOfBuild at schemaLengths routeLengths badLengths limits overLimit badSize badLimit badObject badSlot badStatic badClass badFind
     badDumped badCode badEscape badCopied badPart badSpan faults counts buildSays inColumn badOffsets badLabel badLabels badTargets badPair partsFaults
     codedLeft buildLeft labelAt labelIn fieldIn columnsOf edgesRead rises labelReads readsBack weakRead weakReads asked span edgeCount exactOf coarseOf labelOf
     field weakReferents referent trailingZeros

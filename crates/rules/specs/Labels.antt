@@ -53,12 +53,15 @@ expected ls (suc k) = after (expected ls k) (ls ! k)
 abbrev pub labelCode : List ℕ → ℕ → ℕ → ℕ
 labelCode fields n l = cond (isElement l) (32768 + min (l - ARRAY-ELEMENT - n) 32767) (fieldCode fields l)
 
--- the codes of one object's labels, and of all objects'
+-- the labels of object o; the codes of one object's labels, and of all objects'
+abbrev pub own : List ℕ → List ℕ → ℕ → List ℕ
+own offsets labels o = part labels (offsets ! o) (offsets ! suc o)
+
 unfoldable pub codesOf : List ℕ → List ℕ → List ℕ
 codesOf fields ls = tab (λ k. labelCode fields (expected ls k) (ls ! k)) (length ls)
 
 unfoldable pub codesFor : List ℕ → List ℕ → List ℕ → ℕ → List ℕ
-codesFor fields offsets labels m = collect (λ o. codesOf fields (part labels (offsets ! o) (offsets ! suc o))) m
+codesFor fields offsets labels m = collect (λ o. codesOf fields (own offsets labels o)) m
 
 -- 0x7FFF and 0xFFFF are escaped: the label stands whole in a row, by the edge's place.
 abbrev pub isEscaped : ℕ → Bool

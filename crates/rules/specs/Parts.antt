@@ -4,11 +4,11 @@ use mathlib.Core.Bool.{Bool, cond, not}
 use mathlib.Core.List.{List, [], _∷_, _++_, map}
 use lib.Dec.{eqb, leb, ltb}
 use lib.ListN.{length}
-use Rattle.columns.specs.Lists.{_!_, collect, places, part, allOf, anyOf}
+use Rattle.columns.specs.Lists.{_!_, collect, places, allOf, anyOf}
 use Rattle.rules.specs.Types.{LOADER, ARRAY-ELEMENT, isElement}
 use Rattle.rules.specs.Input.{Schema, classCount}
 use Rattle.rules.specs.Edges.{Parts, Pair, pairLe}
-use Rattle.rules.specs.Labels.{expected}
+use Rattle.rules.specs.Labels.{expected, own}
 use Rattle.rules.specs.Needs.{objectsOf, Lent, shortOfParts}
 use Rattle.rules.specs.Verdict.{firstOf, at, once, differs, schemaLengths, overLimit, badClass, badRoot, overPlaces, counts}
 
@@ -38,7 +38,7 @@ badLabel n ls k =
 
 unfoldable pub badLabels : ℕ → ℕ → List ℕ → List ℕ → List ℕ
 badLabels n m offsets labels =
-    collect (λ o. map (λ k. offsets ! o + k) (places (badLabel n (part labels (offsets ! o) (offsets ! suc o))) (degree offsets o))) m
+    collect (λ o. map (λ k. offsets ! o + k) (places (badLabel n (own offsets labels o)) (degree offsets o))) m
 
 -- Column 3. "As many targets as labels; targets below the object count .. a wrong target count is reported at the shorter length."
 abbrev pub noObject : ℕ → List ℕ → ℕ → Bool

@@ -61,11 +61,12 @@ badLengths x =
     ∷ [])
 
 -- 2 LIMIT: "objects, classes, names, slots or statics over the limit, or raw id size not 4 or 8."
+unfoldable pub limits : ℕ → ℕ → ℕ → ℕ → ℕ → Bool
+limits objects classes names slots statics =
+    anyOf (exceeds 67108864 (objects ∷ classes ∷ []) ∷ ltb 16777216 names ∷ exceeds 268435456 (slots ∷ statics ∷ []) ∷ [])
+
 unfoldable pub overLimit : ℕ → Schema → Bool
-overLimit objects s =
-    anyOf
-    (exceeds 67108864 (objects ∷ classCount s ∷ []) ∷ ltb 16777216 (s .names)
-    ∷ exceeds 268435456 (length (s .slots .offsets) ∷ length (s .statics .names) ∷ []) ∷ [])
+overLimit objects s = limits objects (classCount s) (s .names) (length (s .slots .offsets)) (length (s .statics .names))
 
 unfoldable pub badSize : Route → Bool
 badSize (copied c) = false

@@ -10,13 +10,13 @@ use Rattle.rules.specs.Types.{checkedSays, builtSays}
 use Rattle.rules.specs.Input.{Input, objectCount}
 use Rattle.rules.specs.Account.{noAccount}
 use Rattle.rules.specs.Places.{placeCount}
-use Rattle.rules.specs.Needs.{needWeak}
+use Rattle.rules.specs.Needs.{needWeak, Fits}
 use Rattle.check_input.specs.Flat.{rawInput, Judged}
 use Rattle.need_roots.specs.Roots.{Collected}
 use Rattle.need_weak.specs.Pairs.{rawTotal}
 use Rattle.need_weak.proofs.Theorems as Pairs
 use Rattle.edge_pass.specs.Stage.{Edged}
-use Rattle.build_rooms.specs.Stages.{early, roomSays, Fits}
+use Rattle.build_rooms.specs.Stages.{early, roomSays}
 use Rattle.build_edges.specs.Laying.{Laying}
 use Rattle.build_edges.proofs.Half.{judged, handed, half}
 use Rattle.build_edges.proofs.Asks.{raw-asked, roots-asked}

@@ -7,7 +7,7 @@ use mathlib.Core.Logic.{inl}
 use Rattle.index.specs.Copied.{idsOf}
 use Rattle.need_weak.specs.Pairs.{mostWeak}
 use Rattle.need_weak.proofs.Bound.{copied-most, slots-flags}
-use Rattle.build_rooms.specs.Stages.{Fits}
+use Rattle.rules.specs.Needs.{Fits}
 use Rattle.build_edges.proofs.Half.{fits-most}
 use borrow.Author.Needs.{needs}
 use Rattle.build_edges.proofs.weak_copied.Statement.{statement}

@@ -6,7 +6,7 @@ use native.Mathlib.Omega.{arith}
 use mathlib.Core.Logic.{inl}
 use Rattle.need_weak.specs.Pairs.{mostWeak}
 use Rattle.need_weak.proofs.Bound.{raw-most, slots-flags}
-use Rattle.build_rooms.specs.Stages.{Fits}
+use Rattle.rules.specs.Needs.{Fits}
 use Rattle.build_edges.proofs.Half.{fits-most}
 use borrow.Author.Needs.{needs}
 use Rattle.build_edges.proofs.weak_raw.Statement.{statement}

@@ -5,6 +5,7 @@ use mathlib.Core.List.{List, [], _∷_}
 use Prim.Native.Nat.{ℕ}
 use lib.ListN.{length}
 use Rattle.columns.specs.Columns.{accepts}
+use Rattle.columns.proofs.Written.{zeroed-length, zeroed-own}
 use Rattle.rules.specs.Types.{checkedSays}
 use Rattle.rules.specs.Input.{Input, classCount}
 use Rattle.rules.specs.Places.{placeCount}
@@ -13,7 +14,7 @@ use Rattle.check_tables.specs.Reads.{noPolicy}
 use Rattle.check_tables.specs.Found.{marksIf}
 use Rattle.check_input.specs.Flat.{rawInput, faultsBefore}
 use Rattle.check_input.proofs.Sound.{sound, class-tables, part-tables, raw-counted}
-use Rattle.check_input.proofs.Join.{narrow, before-policy, joined, marks-left, zeroed-length, zeroed-own}
+use Rattle.check_input.proofs.Join.{narrow, before-policy, joined, marks-left}
 use borrow.Author.Needs.{needs}
 use Rattle.check_input.proofs.check_raw.Statement.{statement}
 use Rattle.check_input.proofs.check_raw.Tie as tie

@@ -5,6 +5,7 @@ use mathlib.Core.List.{List, [], _∷_}
 use Prim.Native.Nat.{ℕ}
 use lib.ListN.{length}
 use Rattle.columns.specs.Columns.{accepts}
+use Rattle.columns.proofs.Written.{zeroed-length, zeroed-own}
 use Rattle.rules.specs.Types.{checkedSays}
 use Rattle.rules.specs.Input.{Input, classCount}
 use Rattle.rules.specs.Places.{placeCount}
@@ -15,7 +16,7 @@ use Rattle.check_tables.specs.Found.{marksIf}
 use Rattle.check_places.specs.Placing.{copiedPlaces}
 use Rattle.check_input.specs.Flat.{copiedInput, faultsBefore}
 use Rattle.check_input.proofs.Sound.{sound, told-before, class-tables, code-tables, copied-counted}
-use Rattle.check_input.proofs.Join.{narrow, before-policy, joined, toldFor, told-counted, told-fits, told-accepts, marks-left, zeroed-length, zeroed-own}
+use Rattle.check_input.proofs.Join.{narrow, before-policy, joined, toldFor, told-counted, told-fits, told-accepts, marks-left}
 use borrow.Author.Needs.{needs}
 use Rattle.check_input.proofs.fit_copied.Statement.{statement}
 use Rattle.check_input.proofs.fit_copied.Tie as tie

@@ -5,10 +5,11 @@ use Rattle.columns.specs.Lists.{firstPlace}
 use Rattle.rules.specs.Input.{Schema, classCount}
 use Rattle.rules.specs.Edges.{Parts}
 use Rattle.rules.specs.Needs.{objectsOf}
-use Rattle.rules.specs.Verdict.{schemaLengths, overLimit, badClass, badSlot, badStatic}
-use Rattle.check_tables.specs.Lengths.{schemaOf, limits}
+use Rattle.rules.specs.Verdict.{schemaLengths, overLimit, badClass, badSlot, badStatic, limits}
+use Rattle.check_tables.specs.Lengths.{schemaOf}
+use Rattle.check_tables.proofs.Even.{schema-dumped, schema-tables}
 use Rattle.check_parts.specs.Checks.{handed}
-use Rattle.check_parts.proofs.Handed.{dumped-even, tables-even, pairs-even, handed-tables, handed-pairs, handed-limit, handed-class, handed-places, handed-parts}
+use Rattle.check_parts.proofs.Handed.{pairs-even, handed-tables, handed-pairs, handed-limit, handed-class, handed-places, handed-parts}
 use borrow.Author.Needs.{needs}
 use Rattle.check_parts.proofs.check_parts.Statement.{statement}
 use Rattle.check_parts.proofs.check_parts.Tie as tie
@@ -35,7 +36,7 @@ class : (c : tie.After-first-class) → c .first-class .result ≡ firstPlace (b
 unfolding badClass badSlot badStatic
 class c =
     let s = schemaFor (c .before .before .before .before .before .before .before .before .before .before .before .before .before .before .before .before .before .before .before .before .before .before .before .before .before .before .before .before) in
-    c .first-class .ensures ∙ ap (firstPlace (badClass s)) (dumped-even s (uneven (c .before .before .before .before .before .before .before) ∙ c .before .before .before .before .before .before .if1 .left))
+    c .first-class .ensures ∙ ap (firstPlace (badClass s)) (schema-dumped s (uneven (c .before .before .before .before .before .before .before) ∙ c .before .before .before .before .before .before .if1 .left))
 
 returns : tie.Need-returns
 returns c = handed-tables (schemaFor (c .before .before .before .before .before .before .before .before .before .before .before .before .before .before .before .before .before .before .before .before .before .before)) (partsFor (c .before .before .before .before .before .before .before .before .before .before .before .before .before .before .before .before .before .before .before .before .before .before)) (uneven (c .before) ∙ c .if1 .taken)
@@ -47,7 +48,7 @@ returns-3 : tie.Need-returns-3
 returns-3 c = handed-limit (schemaFor (c .before .before .before .before .before .before .before .before .before .before .before .before .before .before .before .before .before .before .before .before .before .before .before .before .before .before .before)) (partsFor (c .before .before .before .before .before .before .before .before .before .before .before .before .before .before .before .before .before .before .before .before .before .before .before .before .before .before .before)) (uneven (c .before .before .before .before .before .before) ∙ c .before .before .before .before .before .if1 .left) (sym (c .before .before .before .before .differ .ensures) ∙ c .before .before .before .if2 .left) (over (c .before) ∙ c .if3 .taken)
 
 first-class-requires : tie.Need-first-class-requires
-first-class-requires c κs = tables-even (schemaFor (c .before .before .before .before .before .before .before .before .before .before .before .before .before .before .before .before .before .before .before .before .before .before .before .before .before .before .before)) (uneven (c .before .before .before .before .before .before) ∙ c .before .before .before .before .before .if1 .left)
+first-class-requires c κs = schema-tables (schemaFor (c .before .before .before .before .before .before .before .before .before .before .before .before .before .before .before .before .before .before .before .before .before .before .before .before .before .before .before)) (uneven (c .before .before .before .before .before .before) ∙ c .before .before .before .before .before .if1 .left)
 
 returns-4 : tie.Need-returns-4
 returns-4 c = handed-class (schemaFor (c .before .before .before .before .before .before .before .before .before .before .before .before .before .before .before .before .before .before .before .before .before .before .before .before .before .before .before .before .before)) (partsFor (c .before .before .before .before .before .before .before .before .before .before .before .before .before .before .before .before .before .before .before .before .before .before .before .before .before .before .before .before .before)) (uneven (c .before .before .before .before .before .before .before .before) ∙ c .before .before .before .before .before .before .before .if1 .left) (sym (c .before .before .before .before .before .before .differ .ensures) ∙ c .before .before .before .before .before .if2 .left) (over (c .before .before .before) ∙ c .before .before .if3 .left) (class (c .before)) (c .if4 .taken)

@@ -1,6 +1,6 @@
 -- `check_places::fit_places` meets its contract: both fit the room, or the number is the need. Assumes nothing.
 use mathlib.Core.Logic.{inl, inr}
-use Rattle.build_rooms.specs.Stages.{Fits}
+use Rattle.rules.specs.Needs.{Fits}
 use native.Mathlib.Omega.{arith}
 use borrow.Author.Needs.{needs}
 use Rattle.check_places.proofs.Bound.{places-most, parts-in}

@@ -1,6 +1,6 @@
 -- `check_input::count::settle` meets its contract: by the test. Assumes nothing.
 use mathlib.Core.Path.{_∙_}
-use Rattle.check_input.proofs.Join.{zeroed}
+use Rattle.columns.proofs.Written.{zeroed}
 use borrow.Author.Needs.{needs}
 use Rattle.check_input.proofs.count.settle.Statement.{statement}
 use Rattle.check_input.proofs.count.settle.Tie as tie

@@ -6,14 +6,16 @@ use Prim.Native.Nat.{ℕ}
 use lib.ListN.{length}
 use Rattle.rules.specs.Types.{checkedSays}
 use Rattle.columns.specs.Lists.{firstPlace, anyOf}
+use Rattle.columns.proofs.Parts.{first-ext}
 use Rattle.rules.specs.Input.{Input, objectCount, classCount, slotCount, elementCount, foundAt}
 use Rattle.rules.specs.Verdict.{firstOf, badLengths, schemaLengths, routeLengths, badLimit, overLimit, badSize, badObject, badClass, badSlot, badStatic, badDumped, badFind, badCopied, badSpan, badPart}
+use Rattle.rules.specs.Verdict.{limits}
+use Rattle.rules.proofs.Even.{objects-even, copied-even}
 use Rattle.check_tables.specs.Reads.{noPolicy}
-use Rattle.check_tables.specs.Lengths.{limits}
 use Rattle.check_tables.specs.Copying.{heldCodes}
 use Rattle.check_tables.specs.Found.{marksIf, findColumns}
 use Rattle.check_input.specs.Flat.{copiedInput, faultsLate}
-use Rattle.check_input.proofs.Chain.{before-lengths, before-limit, before-object, before-class, before-late, refused, objects-even, dumped-even, tables-even, copied-even, ids-rise, finds-none, first-ext}
+use Rattle.check_input.proofs.Chain.{before-lengths, before-limit, before-object, before-class, before-late, refused, dumped-even, tables-even, ids-rise, finds-none}
 use Rattle.check_tables.proofs.Even.{with-none}
 use Rattle.check_input.proofs.Narrow.{same-dumped, same-find}
 use Rattle.check_tables.proofs.Marks.{marksIf-same}
@@ -41,7 +43,7 @@ unfolding badObject
 object c = c .first-object .ensures
 
 class : (c : tie.After-first-dumped) → c .first-dumped .result ≡ firstPlace (badDumped (inputOf (c .before .before .before .before .before .before .before .before .before .before .before .before .before .before .before .before .before .before .before .before .before .before .before .before .before .before .before .before .before .before .before .before))) (classCount (inputOf (c .before .before .before .before .before .before .before .before .before .before .before .before .before .before .before .before .before .before .before .before .before .before .before .before .before .before .before .before .before .before .before .before) .schema))
-class c = c .first-dumped .ensures .0 ∙ first-ext _ (badDumped (inputOf (c .before .before .before .before .before .before .before .before .before .before .before .before .before .before .before .before .before .before .before .before .before .before .before .before .before .before .before .before .before .before .before .before))) _ (λ i. same-dumped (inputOf (c .before .before .before .before .before .before .before .before .before .before .before .before .before .before .before .before .before .before .before .before .before .before .before .before .before .before .before .before .before .before .before .before)) i)
+class c = c .first-dumped .ensures .0 ∙ first-ext _ (badDumped (inputOf (c .before .before .before .before .before .before .before .before .before .before .before .before .before .before .before .before .before .before .before .before .before .before .before .before .before .before .before .before .before .before .before .before))) _ (λ i l. same-dumped (inputOf (c .before .before .before .before .before .before .before .before .before .before .before .before .before .before .before .before .before .before .before .before .before .before .before .before .before .before .before .before .before .before .before .before)) i)
 
 rest : (c : tie.After-judge-ids) → checkedSays (c .judge-ids .result) ≡ firstOf (faultsLate (inputOf (c .before .before .before .before .before .before .before .before .before .before .before .before .before .before .before .before .before .before .before .before .before .before .before .before .before .before .before .before .before .before .before .before .before .before .before .before))) (told (c .before .before .before .before .before .before .before .before .before .before .before .before .before .before .before .before .before .before .before .before .before .before .before .before .before .before .before .before .before .before .before .before .before .before .before .before))
 unfolding faultsLate badCopied badSpan badPart slotCount elementCount
@@ -94,7 +96,7 @@ returns-5 c =
     let x = inputOf (c .before .before .before .before .before .before .before .before .before .before .before .before .before .before .before .before .before .before .before .before .before .before .before .before .before .before .before .before .before .before .before .before .before .before .before .before) in
     let a = c .before .before .before .before .before .before .before .before .before .before .before .before .before .before .before .before .before .before .before .before .before .before .before .before .before .before .before .before .before .before .before .before .before .before .before .before .args in (
       rest (c) ∙ before-late x (told (c .before .before .before .before .before .before .before .before .before .before .before .before .before .before .before .before .before .before .before .before .before .before .before .before .before .before .before .before .before .before .before .before .before .before .before .before)) (uneven (c .before .before .before .before .before .before .before .before .before .before .before) ∙ c .before .before .before .before .before .before .before .before .before .before .if1 .left) (over (c .before .before .before .before .before .before .before .before .before) ∙ c .before .before .before .before .before .before .before .before .if2 .left) (object (c .before .before .before .before .before .before .before)) (c .before .before .before .before .before .before .if3 .left) (class (c .before .before .before .before)) (c .before .if4 .left),
-      λ ok. c .before .before .before .before .first-dumped .ensures .1 ∙ sym (ap (λ (k : ℕ). marksIf (findColumns (a .ids .now) (a .kinds .now) (a .class-ids .now) (a .dumped .now)) k (length (a .working .now))) (finds-none x (class (c .before .before .before .before)) (c .before .if4 .left) ∙ first-ext (badFind x) _ _ (same-find x))),
+      λ ok. c .before .before .before .before .first-dumped .ensures .1 ∙ sym (ap (λ (k : ℕ). marksIf (findColumns (a .ids .now) (a .kinds .now) (a .class-ids .now) (a .dumped .now)) k (length (a .working .now))) (finds-none x (class (c .before .before .before .before)) (c .before .if4 .left) ∙ first-ext (badFind x) _ _ (λ i l. same-find x i))),
     )
 
 pub judge-copied-spec : {M : Type 1} → statement M

@@ -5,7 +5,7 @@ use Prim.Native.Nat.{_+_, _-_, _≤_, _<_, zero-le}
 use native.Mathlib.Omega.{arith}
 use lib.Dec.{eqb}
 use Rattle.columns.specs.Lists.{_!_, total}
-use Rattle.check_tables.proofs.Laws.{total-more, total-end, one-small}
+use Rattle.columns.proofs.Sums.{total-more, total-end, one-few}
 use Rattle.check_places.specs.Placing.{codeAt}
 use borrow.Author.Needs.{needs}
 use Rattle.check_places.proofs.codes.count_codes.Statement.{statement}
@@ -18,7 +18,7 @@ abbrev μ-loop : tie.MeasureT-loop
 μ-loop codes start n sum₀ k₀ sum k = n - k
 
 small : (c : tie.After-one-code Inv-loop μ-loop) → c .one-code .result ≤ 1
-small c = let a = c .before .before .before .before .before .args in omega (arith, c .one-code .ensures, one-small (not (eqb (a .codes .now ! (a .start + c .before .before .before .loop .k)) 0)))
+small c = let a = c .before .before .before .before .before .args in omega (arith, c .one-code .ensures, one-few (not (eqb (a .codes .now ! (a .start + c .before .before .before .loop .k)) 0)))
 
 loop-holds : tie.Need-loop-holds Inv-loop μ-loop
 loop-holds c = (zero-le, refl, zero-le)

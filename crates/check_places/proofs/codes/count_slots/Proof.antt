@@ -4,7 +4,7 @@ use Prim.Native.Nat.{_+_, _-_, _≤_, _<_, zero-le}
 use native.Mathlib.Omega.{arith}
 use lib.Dec.{eqb}
 use Rattle.columns.specs.Lists.{_!_, total}
-use Rattle.check_tables.proofs.Laws.{total-more, total-end, one-small}
+use Rattle.columns.proofs.Sums.{total-more, total-end, one-few}
 use Rattle.check_places.specs.Placing.{slotHeld, slotAt}
 use borrow.Author.Needs.{needs}
 use Rattle.check_places.proofs.codes.count_slots.Statement.{statement}
@@ -17,7 +17,7 @@ abbrev μ-loop : tie.MeasureT-loop
 μ-loop codes slot-weak kept start first n sum₀ k₀ sum k = n - k
 
 small : (c : tie.After-one-slot Inv-loop μ-loop) → c .one-slot .result ≤ 1
-small c = let a = c .before .before .before .before .before .before .before .args in omega (arith, c .one-slot .ensures, one-small (slotHeld (a .kept) (a .slot-weak .now ! (a .first + c .before .before .before .before .loop .k)) (a .codes .now ! (a .start + c .before .before .before .before .loop .k))))
+small c = let a = c .before .before .before .before .before .before .before .args in omega (arith, c .one-slot .ensures, one-few (slotHeld (a .kept) (a .slot-weak .now ! (a .first + c .before .before .before .before .loop .k)) (a .codes .now ! (a .start + c .before .before .before .before .loop .k))))
 
 loop-holds : tie.Need-loop-holds Inv-loop μ-loop
 loop-holds c = (zero-le, refl, zero-le)

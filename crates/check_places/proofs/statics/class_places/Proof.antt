@@ -4,7 +4,7 @@ use Prim.Native.Nat.{ℕ, _+_, _≤_, _<_, zero-le}
 use native.Mathlib.Omega.{arith}
 use lib.ListN.{length}
 use Rattle.columns.specs.Lists.{_!_}
-use Rattle.check_tables.proofs.Laws.{one-small}
+use Rattle.columns.proofs.Sums.{one-few}
 use Rattle.check_places.specs.Placing.{isHeld}
 use Rattle.check_places.proofs.Counting.{places-found, places-missing, statics-small}
 use borrow.Author.Needs.{needs}
@@ -21,7 +21,7 @@ range c =
 small : (c : tie.After-one-held) → c .before .before .count-statics .result + c .one-held .result ≤ 4294967296
 small c =
     let a = c .before .before .before .before .before .before .before .before .before .before .before .before .before .before .before .before .before .before .before .args in
-    omega (arith, statics-small (a .every) (a .ids .now) (a .static-types .now) (a .static-values .now) (c .before .before .before .before .before .index .result) (c .before .before .before .index2 .result), c .before .before .count-statics .ensures, c .before .before .before .index2 .ensures, c .before .before .before .before .shared-slice-known12 .given (a .class), c .one-held .ensures, one-small (isHeld (a .every) (a .ids .now) (a .loaders .now ! a .class)))
+    omega (arith, statics-small (a .every) (a .ids .now) (a .static-types .now) (a .static-values .now) (c .before .before .before .before .before .index .result) (c .before .before .before .index2 .result), c .before .before .count-statics .ensures, c .before .before .before .index2 .ensures, c .before .before .before .before .shared-slice-known12 .given (a .class), c .one-held .ensures, one-few (isHeld (a .every) (a .ids .now) (a .loaders .now ! a .class)))
 
 shared-slice-read-place-for : tie.Need-shared-slice-read-place-for
 shared-slice-read-place-for c = c .before .before .before .before .before .before .before .before .before .pre .1

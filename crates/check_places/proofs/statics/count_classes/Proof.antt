@@ -4,7 +4,7 @@ use Prim.Native.Nat.{_-_, _*_, _≤_, _<_, zero-le}
 use native.Mathlib.Omega.{arith}
 use lib.ListN.{length}
 use Rattle.columns.specs.Lists.{total}
-use Rattle.check_tables.proofs.Laws.{total-more, total-end}
+use Rattle.columns.proofs.Sums.{total-more, total-end}
 use Rattle.check_places.specs.Placing.{classPlaces}
 use borrow.Author.Needs.{needs}
 use Rattle.check_places.proofs.statics.count_classes.Statement.{statement}

@@ -5,7 +5,7 @@ use native.Mathlib.Nat.{sub-self}
 use native.Mathlib.Omega.{arith}
 use lib.ListN.{length}
 use Rattle.columns.specs.Lists.{_!_, one, total}
-use Rattle.check_tables.proofs.Laws.{total-more, one-small}
+use Rattle.columns.proofs.Sums.{total-more, one-few}
 use Rattle.check_places.specs.Placing.{staticHeld, staticAt}
 use borrow.Author.Needs.{needs}
 use Rattle.check_places.proofs.statics.count_statics.Statement.{statement}
@@ -18,7 +18,7 @@ abbrev μ-loop : tie.MeasureT-loop
 μ-loop ids static-types static-values from to every sum₀ i₀ sum i = to - i
 
 small : (c : tie.After-one-static Inv-loop μ-loop) → c .one-static .result ≤ 1
-small c = let a = c .before .before .before .before .before .before .before .before .args in omega (arith, c .one-static .ensures, one-small (staticHeld (a .every) (a .ids .now) (a .static-types .now ! c .before .before .before .before .loop .i) (a .static-values .now ! c .before .before .before .before .loop .i)))
+small c = let a = c .before .before .before .before .before .before .before .before .args in omega (arith, c .one-static .ensures, one-few (staticHeld (a .every) (a .ids .now) (a .static-types .now ! c .before .before .before .before .loop .i) (a .static-values .now ! c .before .before .before .before .loop .i)))
 
 loop-holds : tie.Need-loop-holds Inv-loop μ-loop
 loop-holds c = (omega arith, omega arith, rw (sub-self (c .before .before .before .args .from)), zero-le)

@@ -4,10 +4,10 @@ use mathlib.Core.Bool.{not}
 use native.Mathlib.Omega.{arith}
 use borrow.Author.Tests.{eq-eqb, ne-eqb}
 use Rattle.columns.specs.Lists.{_!_}
+use Rattle.columns.proofs.Ranks.{past-end}
 use Rattle.index.specs.Copied.{ESCAPED}
 use Rattle.check_tables.specs.Copying.{escapeFault}
 use Rattle.check_tables.proofs.Even.{two-first, two-second, two-none}
-use Rattle.check_tables.proofs.Laws.{past-end}
 use borrow.Author.Needs.{needs}
 use Rattle.check_tables.proofs.copied.escape_fault.Statement.{statement}
 use Rattle.check_tables.proofs.copied.escape_fault.Tie as tie

@@ -4,9 +4,8 @@ use mathlib.Core.Bool.{false}
 use Prim.Native.Nat.{ℕ, _-_, _≤_, zero-le}
 use native.Mathlib.Omega.{arith}
 use Rattle.columns.specs.Lists.{any}
-use Rattle.columns.proofs.Tests.{some-any}
+use Rattle.columns.proofs.Tests.{some-any, any-start, any-more}
 use Rattle.check_tables.specs.Found.{dumpedAt}
-use Rattle.check_tables.proofs.Laws.{any-start, any-more}
 use borrow.Author.Needs.{needs}
 use Rattle.check_tables.proofs.found.dumped_before.Statement.{statement}
 use Rattle.check_tables.proofs.found.dumped_before.Tie as tie

@@ -1,7 +1,7 @@
 -- `check_tables::lengths::over_limit` meets its contract: test by test. Assumes nothing.
 use borrow.Author.Tests.{lt-ltb, le-ltb}
 use Rattle.columns.specs.Lists.{anyOf}
-use Rattle.check_tables.specs.Lengths.{limits}
+use Rattle.rules.specs.Verdict.{limits}
 use borrow.Author.Needs.{needs}
 use Rattle.check_tables.proofs.lengths.over_limit.Statement.{statement}
 use Rattle.check_tables.proofs.lengths.over_limit.Tie as tie

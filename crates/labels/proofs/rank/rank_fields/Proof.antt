@@ -4,7 +4,8 @@ use mathlib.Core.List.{List, []}
 use Prim.Native.Nat.{ℕ}
 use native.Mathlib.Omega.{arith}
 use Rattle.columns.specs.Columns.{over}
-use Rattle.labels.proofs.Ranks.{counted-few, counted, zeroed, used-within, first-used, first-labels}
+use Rattle.columns.proofs.Written.{zeroed-own}
+use Rattle.labels.proofs.Ranks.{counted-few, counted, used-within, first-used, first-labels}
 use borrow.Author.Needs.{needs}
 use Rattle.labels.proofs.rank.rank_fields.Statement.{statement}
 use Rattle.labels.proofs.rank.rank_fields.Tie as tie
@@ -12,7 +13,7 @@ use Rattle.labels.proofs.rank.rank_fields.Tie as tie
 count-uses-requires : tie.Need-count-uses-requires
 count-uses-requires c κs =
     let a = c .before .before .before .before .before .before .before .before .before .args in
-    (record { few = c .before .before .before .before .before .before .before .before .before .pre .0 .few; long = omega (arith, c .before .before .before .before .before .before .before .before .before .pre .0 .long) }, zeroed (a .counts .now) _ (c .before .before .before .zero-u64 .ensures))
+    (record { few = c .before .before .before .before .before .before .before .before .before .pre .0 .few; long = omega (arith, c .before .before .before .before .before .before .before .before .before .pre .0 .long) }, zeroed-own (a .counts .now) (c .before .before .before .zero-u64 .ensures))
 
 write-keys-requires : tie.Need-write-keys-requires
 write-keys-requires c κs =

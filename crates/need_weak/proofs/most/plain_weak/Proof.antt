@@ -4,9 +4,8 @@ use mathlib.Core.Bool.{false}
 use Prim.Native.Nat.{_-_, _≤_}
 use lib.ListN.{length}
 use Rattle.columns.specs.Lists.{any}
-use Rattle.columns.proofs.Tests.{some-any}
+use Rattle.columns.proofs.Tests.{some-any, any-start, any-more}
 use Rattle.need_weak.specs.Pairs.{plainWeak}
-use Rattle.need_weak.proofs.Bound.{none-yet, none-more}
 use native.Mathlib.Omega.{arith}
 use borrow.Author.Needs.{needs}
 use Rattle.need_weak.proofs.most.plain_weak.Statement.{statement}
@@ -19,7 +18,7 @@ abbrev μ-loop : tie.MeasureT-loop
 μ-loop class-kinds slot-start slot-end slot-weak class₀ class = length class-kinds - class
 
 loop-holds : tie.Need-loop-holds Inv-loop μ-loop
-loop-holds c = (search needs, none-yet _)
+loop-holds c = (search needs, any-start _)
 
 returns : tie.Need-returns Inv-loop μ-loop
 returns c =
@@ -29,7 +28,7 @@ returns c =
 loop-again : tie.Need-loop-again Inv-loop μ-loop
 loop-again c =
     let a = c .before .before .before .before .before .before .before .before .args in
-    (search needs, none-more (plainWeak (a .class-kinds .now) (a .slot-starts .now) (a .slot-ends .now) (a .slot-weak .now)) (c .before .before .before .loop .class) (c .before .before .before .loop .inv .1) (sym (c .before .class-weak .ensures) ∙ c .if1 .left))
+    (search needs, any-more (plainWeak (a .class-kinds .now) (a .slot-starts .now) (a .slot-ends .now) (a .slot-weak .now)) (c .before .before .before .loop .class) (c .before .before .before .loop .inv .1) (sym (c .before .class-weak .ensures) ∙ c .if1 .left))
 
 returns-2 : tie.Need-returns-2 Inv-loop μ-loop
 returns-2 c =

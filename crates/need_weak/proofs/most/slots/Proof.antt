@@ -3,8 +3,9 @@ use mathlib.Core.Path.{_≡_, refl, ap, _∙_}
 use Prim.Native.Nat.{_+_, _-_, _≤_}
 use lib.Dec.{eqb}
 use Rattle.columns.specs.Lists.{_!_, total}
+use Rattle.columns.proofs.Sums.{one-few}
 use Rattle.need_weak.specs.Pairs.{weakAt}
-use Rattle.need_weak.proofs.Bound.{one-few, weak-more}
+use Rattle.need_weak.proofs.Bound.{weak-more}
 use native.Mathlib.Omega.{arith}
 use borrow.Author.Needs.{needs}
 use Rattle.need_weak.proofs.most.slots.Statement.{statement}
