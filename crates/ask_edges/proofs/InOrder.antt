@@ -17,10 +17,10 @@ use Rattle.rules.specs.Labels.{Coded, expectedAt, exactLabel}
 use Rattle.rules.specs.Questions.{Columns, labelReads, readsBack, objectsIn, offsetAt, edgesIn, edgeAt}
 use Rattle.labels.specs.Reading.{codeBack}
 use Rattle.labels.proofs.Back.{step-back}
-use Rattle.ask_graph.specs.Reading.{partOf}
-use Rattle.ask_graph.specs.Labelled.{spanIn}
-use Rattle.ask_graph.proofs.Spans.{span-inside, span-read, part-falls, part-past, part-is}
-use Rattle.ask_graph.proofs.Labels.{escapes-rise, escapes-even, label-reads}
+use Rattle.ask_span.specs.Reading.{partOf}
+use Rattle.ask_span.specs.Graph.{spanIn}
+use Rattle.ask_span.proofs.Spans.{span-inside, span-read, part-falls, part-past, part-is}
+use Rattle.ask_span.proofs.Escapes.{escapes-rising, escapes-paired, edge-reads}
 use Rattle.ask_edges.specs.declared.Step.{Step}
 use Rattle.ask_edges.specs.declared.Step.the-variants as Step
 use Rattle.ask_edges.specs.declared.NextEdge.{NextEdge}
@@ -100,7 +100,7 @@ module _ (c : Columns) (o : ℕ) (m : o < objectsIn c) (h : readsBack c o ≡ tr
       ap (λ (s : List ℕ). turn s k) says
       ∙ sym (next-is e z (c .targets) (c .labels .codes) (c .labels .fields) (c .labels .escapeAt) (c .labels .escapeLabel) o k (expectedAt (c .labels) e k)
       (sym (part-is (c .targets) e z (i .ordered) (i .targeted))) (sym (part-is (c .labels .codes) e z (i .ordered) (i .coded))) refl refl)
-      ∙ ap (orObject o) (reads-edge (c .labels) (c .targets) e z k (i .targeted) (i .coded) (escapes-rise c o h) (escapes-even c o h) (label-reads c o h k l) l)
+      ∙ ap (orObject o) (reads-edge (c .labels) (c .targets) e z k (i .targeted) (i .coded) (escapes-rising c o h) (escapes-paired c o h) (edge-reads c o h k l) l)
 
   pub end-in-order : (k : ℕ) → edgesIn c o ≤ k → turn (spanIn c o) k ≡ 0 ∷ []
   end-in-order k l =

@@ -8,7 +8,7 @@ use Rattle.columns.specs.Lists.{_!_}
 use Rattle.columns.specs.Columns.{accepts}
 use Rattle.rules.specs.Labels.{after}
 use Rattle.labels.specs.Reading.{codeBack}
-use Rattle.ask_graph.specs.Reading.{partOf}
+use Rattle.ask_span.specs.Reading.{partOf}
 use Rattle.ask_edges.specs.declared.Step.{Step}
 use Rattle.ask_edges.specs.declared.Step.the-variants as Step
 use Rattle.ask_edges.specs.declared.ReadEdge.{ReadEdge}

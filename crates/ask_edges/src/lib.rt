@@ -177,7 +177,7 @@ fn answer(edge: ReadEdge, object: usize) -> NextEdge
     }
 }
 
-// Edge k of an object, by the span that `ask_graph::span` gave, where the edges before it were read in order: `expected` is 0 for the first, and then what the edge
+// Edge k of an object, by the span that `ask_span::span` gave, where the edges before it were read in order: `expected` is 0 for the first, and then what the edge
 // before gave. Where the span is a refusal, that is the answer.
 pub fn edge_of<'a, 'b>(
     targets: &'a [u32],
@@ -200,8 +200,8 @@ pub fn edge_of<'a, 'b>(
             if end - start <= k {
                 return NextEdge::End;
             }
-            let own_targets = ask_graph::targets_of(targets, at);
-            let own_codes = ask_graph::codes_of(codes, at);
+            let own_targets = ask_span::targets_of(targets, at);
+            let own_codes = ask_span::codes_of(codes, at);
             let edge = edge_at(
                 own_targets,
                 own_codes,

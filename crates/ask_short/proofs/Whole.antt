@@ -17,12 +17,13 @@ use Rattle.rules.specs.Types.{ARRAY-ELEMENT, isElement}
 use Rattle.rules.specs.Labels.{Coded, isEscaped}
 use Rattle.rules.specs.Questions.{Columns}
 use Rattle.labels.specs.Reading.{rowBack, elementBack, fieldBack, codeBack, stepBack, nextOf, onward, nextBack, coarseBack, walkBack, exactBack}
-use Rattle.ask_graph.proofs.Placed.{decoded-bad, decoded-end}
-use Rattle.ask_graph.specs.Reading.{ended, spanOf, weakOf}
-use Rattle.ask_graph.specs.Labelled.{spanIn, goesTo, orColumns}
-use Rattle.ask_graph.specs.Sought.{stops, decoded, placed, elementAt, codeAt, codeIn, soughtIn, targetOf, fieldFound, firstWeak, orWeak, referentFound}
-use Rattle.ask_graph.specs.declared.field.Sought.{Sought}
-use Rattle.ask_graph.specs.declared.field.Sought.the-variants.{At, Nothing, Bad}
+use Rattle.ask_span.specs.Reading.{ended, spanOf, weakOf}
+use Rattle.ask_span.specs.Graph.{spanIn}
+use Rattle.ask_label.specs.Labelled.{goesTo, orColumns}
+use Rattle.ask_field.specs.Sought.{stops, decoded, placed, elementAt, codeAt, codeIn, soughtIn, targetOf, fieldFound, firstWeak, orWeak, referentFound}
+use Rattle.ask_field.specs.declared.Sought.{Sought}
+use Rattle.ask_field.specs.declared.Sought.the-variants.{At, Nothing, Bad}
+use Rattle.ask_field.proofs.Placed.{decoded-bad, decoded-end}
 use Rattle.ask_short.specs.Lean.{shortOf, plainOf, plainBack, leanOf, labelFound}
 use Rattle.ask_short.proofs.Plain.{no-long, no-row, any-edge}
 

@@ -9,7 +9,8 @@ use Rattle.store.specs.Blocked.{Blocked, blockedOf}
 use Rattle.rules.specs.Labels.{Coded}
 use Rattle.rules.specs.Questions.{Columns}
 use Rattle.labels.specs.Reading.{codedOf, codeBack, exactBack}
-use Rattle.ask_graph.specs.Labelled.{spanIn, graphOf, goesTo, orColumns}
+use Rattle.ask_span.specs.Graph.{spanIn, graphOf}
+use Rattle.ask_label.specs.Labelled.{goesTo, orColumns}
 
 -- offsets without the long ones
 abbrev pub shortOf : List ℕ → List ℕ → Blocked

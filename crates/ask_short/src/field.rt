@@ -1,6 +1,6 @@
 // The target of an object's field, and of its weak reference, without the escapes.
 use super::span;
-use ask_graph::field::Sought;
+use ask_field::Sought;
 use labels::EdgeLabel;
 use labels::code::ESCAPED;
 use rules::Field;
@@ -14,8 +14,8 @@ ghost use lib.ListN.{length};
 ghost use mathlib.Core.Bool.{true};
 ghost use Rattle.columns.specs.Ranks.{bisect};
 ghost use Rattle.rules.specs.Types.{fieldSays, referentSays};
-ghost use Rattle.ask_graph.specs.Reading.{weakOf};
-ghost use Rattle.ask_graph.specs.Sought.{decoded, soughtIn, fieldFound, firstWeak, referentFound};
+ghost use Rattle.ask_span.specs.Reading.{weakOf};
+ghost use Rattle.ask_field.specs.Sought.{decoded, soughtIn, fieldFound, firstWeak, referentFound};
 ghost use Rattle.ask_short.specs.Lean.{plainOf, leanOf};
 
 // The first edge with a label that has no code: each edge's label is read.
@@ -54,16 +54,16 @@ fn seek(
     ensures { λ r. ⌜ r ≡ soughtIn (plainOf (now (codes .entry)) (now (fields .entry))) (now (table .entry)) start count label ⌝ }
 {
     if label == Label::ARRAY_ELEMENT {
-        return ask_graph::field::first_element(codes, start, count);
+        return ask_field::first_element(codes, start, count);
     }
     if Label::ARRAY_ELEMENT <= label {
         return Sought::Nothing;
     }
-    let code = ask_graph::field::code_of(fields, table, label);
+    let code = ask_field::code_of(fields, table, label);
     if code == ESCAPED {
         return first_label(codes, start, count, fields, label);
     }
-    ask_graph::field::first_code(codes, start, count, code)
+    ask_field::first_code(codes, start, count, code)
 }
 
 // The target of a field of an object: of its first edge whose coarse label matches.
@@ -84,7 +84,7 @@ pub fn field(
         Span::Edges { start, end } => {
             let sought = seek(codes, start, end - start, fields, table, label);
             match sought {
-                Sought::At(k) => Field::Target(ask_graph::field::target_at(targets, start + k)),
+                Sought::At(k) => Field::Target(ask_field::target_at(targets, start + k)),
                 Sought::Nothing => Field::Nothing,
                 Sought::Bad => Field::Columns(object),
             }
@@ -139,7 +139,7 @@ fn first_weak(short: &[u16], weak_from: &[u32], weak_to: &[u32], object: usize) 
     if none {
         return Referent::Nothing;
     }
-    ask_graph::field::first_weak(short, weak_from, weak_to, object)
+    ask_field::first_weak(short, weak_from, weak_to, object)
 }
 
 // The target of a field of an object, or where it has none its smallest weak target.

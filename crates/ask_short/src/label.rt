@@ -117,12 +117,12 @@ pub fn label_of(
     match at {
         Span::Edges { start, end } => {
             let count = end - start;
-            let edge = ask_graph::label::first_to(targets, start, count, target);
+            let edge = ask_label::first_to(targets, start, count, target);
             if count <= edge {
                 return LabelOf::Nothing;
             }
             let label = exact(codes, start, edge, fields);
-            ask_graph::label::target_answer(label, object)
+            ask_label::target_answer(label, object)
         }
         Span::Index(i) => LabelOf::Index(i),
         Span::Columns(o) => LabelOf::Columns(o),

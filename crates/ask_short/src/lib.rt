@@ -8,7 +8,7 @@ use store::Offset;
 ghost use mathlib.Core.Path.{_≡_};
 ghost use Rattle.store.specs.Blocked.{offsetSays, shortBack, readBack};
 ghost use Rattle.rules.specs.Types.{spanSays};
-ghost use Rattle.ask_graph.specs.Reading.{spanOf};
+ghost use Rattle.ask_span.specs.Reading.{spanOf};
 ghost use Rattle.ask_short.specs.Lean.{shortOf};
 
 // A short number on its block's base.
@@ -53,5 +53,5 @@ pub fn span(bases: &[u64], short: &[u16], codes: usize, targets: usize, object: 
     }
     let first = offset(bases, short, object);
     let next = offset(bases, short, object + 1);
-    ask_graph::between(first, next, codes, targets, object)
+    ask_span::between(first, next, codes, targets, object)
 }

@@ -5,9 +5,10 @@ ghost use mathlib.Core.List.{[], _∷_};
 ghost use lib.ListN.{length};
 ghost use Rattle.store.specs.Blocked.{blockedOf};
 ghost use Rattle.rules.specs.Questions.{exactOf, labelOf};
-ghost use Rattle.ask_graph.specs.Reading.{spanOf, countOf, weakOf};
-ghost use Rattle.ask_graph.specs.Labelled.{graphOf, spanIn, edgeAsked, coarseAt, Labelled};
-ghost use Rattle.ask_graph.specs.Sought.{fieldFound, referentFound};
+ghost use Rattle.ask_span.specs.Reading.{spanOf, countOf, weakOf};
+ghost use Rattle.ask_span.specs.Graph.{graphOf, spanIn};
+ghost use Rattle.ask_label.specs.Labelled.{edgeAsked, coarseAt, Labelled};
+ghost use Rattle.ask_field.specs.Sought.{fieldFound, referentFound};
 ghost use Rattle.ask_short.specs.Lean.{shortOf, leanOf, plainBack, labelFound};
 ghost use Rattle.ask_edges.specs.Read.{nextOf};
 ghost use Rattle.answer_numbers.specs.Told.{told, spanNumber, replyOf, labelNext};
@@ -27,7 +28,7 @@ pub extern "C" fn yokefathom_span(
 )
     ensures { λ _. ⌜ now (answer .exit) ≡ told 4 (spanOf (blockedOf (now (bases .entry)) (now (short .entry)) (now («long_at» .entry)) (now («long_value» .entry))) (length (now (codes .entry))) (length (now (targets .entry))) object) ⌝ }
 {
-    let found = ask_graph::span(bases, short, long_at, long_value, codes, targets, object);
+    let found = ask_span::span(bases, short, long_at, long_value, codes, targets, object);
     let says = answer_numbers::span(found);
     *answer = says;
 }
@@ -46,7 +47,7 @@ pub extern "C" fn yokefathom_edge_count(
 )
     ensures { λ _. ⌜ now (answer .exit) ≡ told 4 (countOf (spanOf (blockedOf (now (bases .entry)) (now (short .entry)) (now («long_at» .entry)) (now («long_value» .entry))) (length (now (codes .entry))) (length (now (targets .entry))) object)) ⌝ }
 {
-    let found = ask_graph::edge_count(bases, short, long_at, long_value, codes, targets, object);
+    let found = ask_span::edge_count(bases, short, long_at, long_value, codes, targets, object);
     let says = answer_numbers::edge_count(found);
     *answer = says;
 }
@@ -62,7 +63,7 @@ pub extern "C" fn yokefathom_weak_referents(
 )
     ensures { λ _. ⌜ now (answer .exit) ≡ told 4 (weakOf (length (now (short .entry))) (now («weak_from» .entry)) (now («weak_to» .entry)) object) ⌝ }
 {
-    let found = ask_graph::weak_referents(short, weak_from, weak_to, object);
+    let found = ask_span::weak_referents(short, weak_from, weak_to, object);
     let says = answer_numbers::weak_referents(found);
     *answer = says;
 }
@@ -85,7 +86,7 @@ pub extern "C" fn yokefathom_coarse_label(
 )
     ensures { λ _. ⌜ now (answer .exit) ≡ told 4 (coarseAt (graphOf (now (bases .entry)) (now (short .entry)) (now («long_at» .entry)) (now («long_value» .entry)) (now (codes .entry)) (now (targets .entry)) (now (fields .entry)) (now («escape_at» .entry)) (now («escape_label» .entry)) [] []) object edge) ⌝ }
 {
-    let found = ask_graph::label::coarse_label(
+    let found = ask_label::coarse_label(
         bases,
         short,
         long_at,
@@ -120,7 +121,7 @@ pub extern "C" fn yokefathom_exact_label(
 )
     ensures { λ _. ⌜ (now (answer .exit) ≡ told 4 (heard (now (answer .exit)))) × Labelled object (edgeAsked (spanIn (graphOf (now (bases .entry)) (now (short .entry)) (now («long_at» .entry)) (now («long_value» .entry)) (now (codes .entry)) (now (targets .entry)) (now (fields .entry)) (now («escape_at» .entry)) (now («escape_label» .entry)) [] []) object) edge) (heard (now (answer .exit))) (exactOf (graphOf (now (bases .entry)) (now (short .entry)) (now («long_at» .entry)) (now («long_value» .entry)) (now (codes .entry)) (now (targets .entry)) (now (fields .entry)) (now («escape_at» .entry)) (now («escape_label» .entry)) [] []) object edge) ⌝ }
 {
-    let found = ask_graph::label::exact_label(
+    let found = ask_label::exact_label(
         bases,
         short,
         long_at,
@@ -155,7 +156,7 @@ pub extern "C" fn yokefathom_label_of(
 )
     ensures { λ _. ⌜ (now (answer .exit) ≡ told 4 (heard (now (answer .exit)))) × Labelled object (spanIn (graphOf (now (bases .entry)) (now (short .entry)) (now («long_at» .entry)) (now («long_value» .entry)) (now (codes .entry)) (now (targets .entry)) (now (fields .entry)) (now («escape_at» .entry)) (now («escape_label» .entry)) [] []) object) (heard (now (answer .exit))) (labelOf (graphOf (now (bases .entry)) (now (short .entry)) (now («long_at» .entry)) (now («long_value» .entry)) (now (codes .entry)) (now (targets .entry)) (now (fields .entry)) (now («escape_at» .entry)) (now («escape_label» .entry)) [] []) object target) ⌝ }
 {
-    let found = ask_graph::label::label_of(
+    let found = ask_label::label_of(
         bases,
         short,
         long_at,
@@ -191,7 +192,7 @@ pub extern "C" fn yokefathom_field(
 )
     ensures { λ _. ⌜ now (answer .exit) ≡ told 4 (fieldFound (graphOf (now (bases .entry)) (now (short .entry)) (now («long_at» .entry)) (now («long_value» .entry)) (now (codes .entry)) (now (targets .entry)) (now (fields .entry)) (now («escape_at» .entry)) (now («escape_label» .entry)) [] []) (now (table .entry)) object label) ⌝ }
 {
-    let found = ask_graph::field::field(
+    let found = ask_field::field(
         bases,
         short,
         long_at,
@@ -230,7 +231,7 @@ pub extern "C" fn yokefathom_referent(
 )
     ensures { λ _. ⌜ now (answer .exit) ≡ told 4 (referentFound (graphOf (now (bases .entry)) (now (short .entry)) (now («long_at» .entry)) (now («long_value» .entry)) (now (codes .entry)) (now (targets .entry)) (now (fields .entry)) (now («escape_at» .entry)) (now («escape_label» .entry)) (now («weak_from» .entry)) (now («weak_to» .entry))) (now (table .entry)) object label) ⌝ }
 {
-    let found = ask_graph::field::referent(
+    let found = ask_field::referent(
         bases,
         short,
         long_at,

@@ -2,7 +2,7 @@
 use mathlib.Core.Path.{_∙_}
 use mathlib.Core.List.{[]}
 use Rattle.labels.specs.Reading.{codedOf}
-use Rattle.ask_graph.proofs.Fields.{sought-element, sought-other, sought-decoded, sought-coded}
+use Rattle.ask_field.proofs.Fields.{sought-element, sought-other, sought-decoded, sought-coded}
 use borrow.Author.Needs.{needs}
 use Rattle.ask_short.proofs.field.seek.Statement.{statement}
 use Rattle.ask_short.proofs.field.seek.Tie as tie

@@ -3,7 +3,7 @@ use mathlib.Core.Path.{refl, sym, ap, _∙_}
 use native.Mathlib.Omega.{arith}
 use Rattle.columns.specs.Columns.{accepts}
 use Rattle.rules.specs.Types.{spanSays}
-use Rattle.ask_graph.proofs.Spans.{span-inside}
+use Rattle.ask_span.proofs.Spans.{span-inside}
 use Rattle.ask_short.proofs.Found.{nothing-found, label-found, refused-found}
 use borrow.Author.Needs.{needs}
 use Rattle.ask_short.proofs.label.label_of.Statement.{statement}

@@ -1,0 +1,34 @@
+-- `ask_field::seek` meets its contract: at each return the tests that led there say which case of `soughtIn` holds. Assumes nothing.
+use mathlib.Core.Path.{_∙_}
+use Rattle.labels.specs.Reading.{codedOf}
+use Rattle.ask_field.proofs.Fields.{sought-element, sought-other, sought-decoded, sought-coded}
+use borrow.Author.Needs.{needs}
+use Rattle.ask_field.proofs.seek.Statement.{statement}
+use Rattle.ask_field.proofs.seek.Tie as tie
+
+returns : tie.Need-returns
+returns c = c .first-element .ensures ∙ sought-element (codedOf (c .before .before .before .before .before .before .before .args .codes .now) (c .before .before .before .before .before .before .before .args .fields .now) (c .before .before .before .before .before .before .before .args .escape-at .now) (c .before .before .before .before .before .before .before .args .escape-label .now)) (c .before .before .before .before .before .before .before .args .table .now) (c .before .before .before .before .before .before .before .args .start) (c .before .before .before .before .before .before .before .args .count) (c .before .before .before .before .before .before .before .args .label) (c .before .if1 .taken)
+
+returns-2 : tie.Need-returns-2
+returns-2 c = sought-other (codedOf (c .before .before .before .before .before .before .before .args .codes .now) (c .before .before .before .before .before .before .before .args .fields .now) (c .before .before .before .before .before .before .before .args .escape-at .now) (c .before .before .before .before .before .before .before .args .escape-label .now)) (c .before .before .before .before .before .before .before .args .table .now) (c .before .before .before .before .before .before .before .args .start) (c .before .before .before .before .before .before .before .args .count) (c .before .before .before .before .before .before .before .args .label) (c .before .if1 .left) (c .if2 .taken)
+
+returns-3 : tie.Need-returns-3
+returns-3 c =
+    c .first-label .ensures ∙ sought-decoded (codedOf (c .before .before .before .before .before .before .before .before .before .before .args .codes .now) (c .before .before .before .before .before .before .before .before .before .before .args .fields .now) (c .before .before .before .before .before .before .before .before .before .before .args .escape-at .now) (c .before .before .before .before .before .before .before .before .before .before .args .escape-label .now)) (c .before .before .before .before .before .before .before .before .before .before .args .table .now) (c .before .before .before .before .before .before .before .before .before .before .args .start) (c .before .before .before .before .before .before .before .before .before .before .args .count) (c .before .before .before .before .before .before .before .before .before .before .args .label) (c .before .before .before .before .if1 .left) (c .before .before .before .if2 .left) (c .before .before .code-of .ensures) (c .before .if3 .taken)
+
+returns-4 : tie.Need-returns-4
+returns-4 c =
+    c .first-code .ensures ∙ sought-coded (codedOf (c .before .before .before .before .before .before .before .before .before .before .args .codes .now) (c .before .before .before .before .before .before .before .before .before .before .args .fields .now) (c .before .before .before .before .before .before .before .before .before .before .args .escape-at .now) (c .before .before .before .before .before .before .before .before .before .before .args .escape-label .now)) (c .before .before .before .before .before .before .before .before .before .before .args .table .now) (c .before .before .before .before .before .before .before .before .before .before .args .start) (c .before .before .before .before .before .before .before .before .before .before .args .count) (c .before .before .before .before .before .before .before .before .before .before .args .label) (c .before .before .before .before .if1 .left) (c .before .before .before .if2 .left) (c .before .before .code-of .ensures) (c .before .if3 .left)
+
+pub seek-spec : {M : Type 1} → statement M
+seek-spec =
+    tie.close
+    (tie.spec
+    (λ c κs. search needs)
+    returns
+    returns-2
+    (λ c κs. search needs)
+    (λ c κs. search needs)
+    returns-3
+    (λ c κs. search needs)
+    returns-4)
