@@ -16,49 +16,49 @@ use Rattle.rules.specs.Questions.{Columns}
 use Rattle.labels.specs.Reading.{coarseBack}
 use Rattle.ask_span.specs.Reading.{weakOf}
 use Rattle.ask_span.specs.Graph.{spanIn}
-use Rattle.ask_field.specs.Sought.{placed, elementAt, codeAt, codeBy, codeIn, stops, ifRead, decoded, soughtIn, targetOf, fieldFound, firstWeak, orWeak, referentFound}
+use Rattle.ask_field.specs.Sought.{placed, elementAt, codeAt, codeFromSlot, codeFromTable, stops, ifRead, decoded, soughtIn, soughtTarget, fieldFound, firstWeak, orWeak, referentFound}
 use Rattle.ask_field.specs.declared.Sought.{Sought}
 use Rattle.ask_field.specs.declared.Sought.the-variants.{At, Nothing}
 
--- Which case of `codeBy` holds.
+-- Which case of `codeFromSlot` holds.
 module _ (fields table : List ℕ) (l s : ℕ) where
-  pub code-past : length table ≤ s → 32767 ≡ codeBy fields table l s
-  unfolding codeBy allOf
+  pub code-past : length table ≤ s → 32767 ≡ codeFromSlot fields table l s
+  unfolding codeFromSlot allOf
   code-past h = rw (le-ltb s (length table) h)
 
   module _ (h : s < length table) where
-    pub code-escaped : 32767 ≤ table ! s → 32767 ≡ codeBy fields table l s
-    unfolding codeBy allOf
+    pub code-escaped : 32767 ≤ table ! s → 32767 ≡ codeFromSlot fields table l s
+    unfolding codeFromSlot allOf
     code-escaped m = rw (lt-ltb s (length table) h, le-ltb (table ! s) 32767 m)
 
     module _ (m : table ! s < 32767) where
-      pub code-outside : length fields ≤ table ! s → 32767 ≡ codeBy fields table l s
-      unfolding codeBy allOf
+      pub code-outside : length fields ≤ table ! s → 32767 ≡ codeFromSlot fields table l s
+      unfolding codeFromSlot allOf
       code-outside n = rw (lt-ltb s (length table) h, lt-ltb (table ! s) 32767 m, le-ltb (table ! s) (length fields) n)
 
       module _ (n : table ! s < length fields) where
-        pub code-other : (fields ! (table ! s) ≡ l → ⊥) → 32767 ≡ codeBy fields table l s
-        unfolding codeBy allOf
+        pub code-other : (fields ! (table ! s) ≡ l → ⊥) → 32767 ≡ codeFromSlot fields table l s
+        unfolding codeFromSlot allOf
         code-other q = rw (lt-ltb s (length table) h, lt-ltb (table ! s) 32767 m, lt-ltb (table ! s) (length fields) n, ne-eqb (fields ! (table ! s)) l q)
 
-        pub code-is : fields ! (table ! s) ≡ l → table ! s ≡ codeBy fields table l s
-        unfolding codeBy allOf
+        pub code-is : fields ! (table ! s) ≡ l → table ! s ≡ codeFromSlot fields table l s
+        unfolding codeFromSlot allOf
         code-is q = rw (lt-ltb s (length table) h, lt-ltb (table ! s) 32767 m, lt-ltb (table ! s) (length fields) n, eq-eqb (fields ! (table ! s)) l q)
 
 -- a code that is found is the label's among the fields
-pub record Coding (fields : List ℕ) (l c : ℕ) : Type 0 where
+pub record CodedAs (fields : List ℕ) (l c : ℕ) : Type 0 where
   pub low : c < 32767
   pub inside : c < length fields
   pub is : fields ! c ≡ l
 
-pub coding : (fields table : List ℕ) (l s : ℕ) → (codeBy fields table l s ≡ 32767 → ⊥) → Coding fields l (codeBy fields table l s)
-unfolding codeBy
-coding fields table l s q = go (allOf tests) refl q
+pub coded-as : (fields table : List ℕ) (l s : ℕ) → (codeFromSlot fields table l s ≡ 32767 → ⊥) → CodedAs fields l (codeFromSlot fields table l s)
+unfolding codeFromSlot
+coded-as fields table l s q = go (allOf tests) refl q
   where
     tests : List Bool
     tests = ltb s (length table) ∷ ltb (table ! s) 32767 ∷ ltb (table ! s) (length fields) ∷ eqb (fields ! (table ! s)) l ∷ []
 
-    go : (b : Bool) → allOf tests ≡ b → (cond b (table ! s) 32767 ≡ 32767 → ⊥) → Coding fields l (cond b (table ! s) 32767)
+    go : (b : Bool) → allOf tests ≡ b → (cond b (table ! s) 32767 ≡ 32767 → ⊥) → CodedAs fields l (cond b (table ! s) 32767)
     go true h q = record { low = ltb-true _ _ (each-of tests h 1); inside = ltb-true _ _ (each-of tests h 2); is = eqb-true _ _ (each-of tests h 3) }
     go false h q = absurd (q refl)
 
@@ -72,7 +72,7 @@ module _ (d : Coded) (table : List ℕ) (e n l : ℕ) where
   unfolding soughtIn
   sought-other q h = rw (ne-eqb l ARRAY-ELEMENT q, le-leb ARRAY-ELEMENT l h)
 
-  module _ (q : l ≡ ARRAY-ELEMENT → ⊥) (h : l < ARRAY-ELEMENT) {c : ℕ} (is : c ≡ codeIn (d .fields) table l) where
+  module _ (q : l ≡ ARRAY-ELEMENT → ⊥) (h : l < ARRAY-ELEMENT) {c : ℕ} (is : c ≡ codeFromTable (d .fields) table l) where
     pub sought-decoded : c ≡ 32767 → decoded d e n l ≡ soughtIn d table e n l
     unfolding soughtIn
     sought-decoded z = rw (ne-eqb l ARRAY-ELEMENT q, lt-leb ARRAY-ELEMENT l h, ← is, eq-eqb c 32767 z)
@@ -106,7 +106,7 @@ unfolding soughtIn
 sought-within d table e n l {k} h = go (eqb l ARRAY-ELEMENT) (isElement l) (eqb c 32767) h
   where
     c : ℕ
-    c = codeIn (d .fields) table l
+    c = codeFromTable (d .fields) table l
 
     go : (a b z : Bool) → At k ≡ cond a (placed (elementAt d e) n) (cond b Nothing (cond z (decoded d e n l) (placed (codeAt d e c) n))) → k < n
     go true b z h = within-placed (elementAt d e) n k h
@@ -116,7 +116,7 @@ sought-within d table e n l {k} h = go (eqb l ARRAY-ELEMENT) (isElement l) (eqb 
 
 -- Which case of `fieldFound` holds.
 module _ (c : Columns) (table : List ℕ) (o l : ℕ) where
-  pub field-is : {a b : ℕ} {s : Sought} → spanIn c o ≡ 0 ∷ a ∷ b ∷ [] → s ≡ soughtIn (c .labels) table a (b - a) l → targetOf (c .targets) a o s ≡ fieldFound c table o l
+  pub field-is : {a b : ℕ} {s : Sought} → spanIn c o ≡ 0 ∷ a ∷ b ∷ [] → s ≡ soughtIn (c .labels) table a (b - a) l → soughtTarget (c .targets) a o s ≡ fieldFound c table o l
   unfolding fieldFound accepts
   field-is {a} {b} {s} e q = rw (e, q)
 

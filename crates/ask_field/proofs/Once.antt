@@ -9,11 +9,11 @@ use mathlib.Core.List.{List, [], _∷_}
 use mathlib.Core.Option.{some}
 use lib.Dec.{eqb, leb}
 use lib.ListN.{length, take}
-use borrow.Author.Tests.{eqb-true, eq-eqb, ne-eqb}
+use borrow.Author.Tests.{eqb-true, eq-eqb}
 use Rattle.columns.specs.Lists.{_!_, find, next, one, count, sort}
 use Rattle.columns.specs.Ranks.{Rises}
 use Rattle.columns.proofs.Lists.{lt-or-ge}
-use Rattle.columns.proofs.Sums.{sum-sort}
+use Rattle.columns.proofs.Sums.{sum-sort, count-none}
 use Rattle.rules.specs.Types.{LOADER, ARRAY-ELEMENT}
 use Rattle.rules.specs.Labels.{occurring, listed, ranked, fieldsOf, fieldCode}
 use Rattle.labels.specs.Fields.{firstOf}
@@ -30,10 +30,6 @@ stands [] i l = absurd (not-suc-le-zero l)
 stands (a ∷ xs) zero l = rw (eq-eqb a a refl) (omega arith)
 stands (a ∷ xs) (suc i) l = omega (arith, stands xs i (omega arith))
 
-absent : (v : ℕ) (xs : List ℕ) → ((i : ℕ) → i < length xs → v < xs ! i) → count v xs ≡ 0
-absent v [] h = refl
-absent v (a ∷ xs) h = rw (ne-eqb a v (λ q. omega (arith, h 0 (omega arith)))) (omega (arith, absent v xs (λ i l. h (suc i) (omega arith))))
-
 rises-once : (xs : List ℕ) → Rises xs → Once xs
 rises-once [] rise v = omega arith
 rises-once (a ∷ xs) rise v = go (eqb a v) refl (rises-once xs (λ p q h l. rise (suc p) (suc q) (omega arith) (omega arith)) v)
@@ -41,7 +37,7 @@ rises-once (a ∷ xs) rise v = go (eqb a v) refl (rises-once xs (λ p q h l. ris
     go : (b : Bool) → eqb a v ≡ b → count v xs ≤ 1 → one b + count v xs ≤ 1
     go true t ih =
         let z : a ≡ v = eqb-true a v t in
-        omega (arith, absent v xs (λ i l. omega (arith, rise 0 (suc i) (omega arith) (omega arith))))
+        omega (arith, count-none v xs (λ i l. omega (arith, rise 0 (suc i) (omega arith) (omega arith))))
     go false t ih = omega arith
 
 sort-once : (le : ℕ → ℕ → Bool) (xs : List ℕ) → Once xs → Once (sort le xs)

@@ -3,13 +3,12 @@ use Prim.Native.Nat.{ℕ, _+_, _≤_, _<_}
 use native.Mathlib.Omega.{arith}
 use mathlib.Core.Path.{_≡_, sym, ap}
 use mathlib.Core.Bool.{Bool, true, false, cond}
-use mathlib.Core.List.{List, [], _∷_}
+use mathlib.Core.List.{[], _∷_}
 use lib.Dec.{ltb}
-use lib.ListN.{getD}
 use borrow.Author.Tests.{lt-ltb, le-ltb, eq-eqb, ne-eqb}
 use Rattle.columns.specs.Lists.{firstPlace}
 use Rattle.columns.proofs.First.{Searching, searching-more, searching-hit, searching-end}
-use Rattle.columns.proofs.Parts.{places-ext}
+use Rattle.columns.proofs.Parts.{first-ext}
 use Rattle.columns.proofs.Tests.{no-places}
 use Rattle.rules.specs.Labels.{Coded}
 use Rattle.labels.specs.Reading.{coarseBack}
@@ -31,9 +30,6 @@ module _ (t : ℕ → Bool) (n : ℕ) where
   placed-none h = rw (no-places t n h, le-ltb n n (omega arith))
 
 -- tests that agree on n edges have one first place
-pub first-ext : (s t : ℕ → Bool) (n : ℕ) → ((k : ℕ) → k < n → s k ≡ t k) → firstPlace s n ≡ firstPlace t n
-first-ext s t n h = ap (λ (xs : List ℕ). getD xs 0 n) (places-ext s t n h)
-
 pub placed-ext : (s t : ℕ → Bool) (n : ℕ) → ((k : ℕ) → k < n → s k ≡ t k) → placed s n ≡ placed t n
 unfolding placed
 placed-ext s t n h = ap (λ (j : ℕ). cond (ltb j n) (At j) Nothing) (first-ext s t n h)

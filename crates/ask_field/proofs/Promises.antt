@@ -14,6 +14,7 @@ use Rattle.columns.specs.Lists.{_!_, firstPlace, allOf, find, found, lookup, pa
 use Rattle.columns.specs.Columns.{accepts}
 use Rattle.columns.specs.Ranks.{rank}
 use Rattle.columns.proofs.Lists.{lt-or-ge}
+use Rattle.columns.proofs.Parts.{first-ext}
 use Rattle.columns.proofs.Ranks.{rank-within}
 use Rattle.columns.proofs.Sums.{part-at, part-length}
 use Rattle.columns.proofs.Tests.{each-of}
@@ -28,14 +29,14 @@ use Rattle.labels.specs.Reading.{coarseBack}
 use Rattle.labels.proofs.Back.{coarse-back}
 use Rattle.ask_span.specs.Reading.{weakOf}
 use Rattle.ask_span.specs.Graph.{spanIn}
-use Rattle.ask_field.specs.Sought.{placed, elementAt, codeAt, codeIn, stops, ifRead, decoded, soughtIn, targetOf, fieldFound, firstWeak, orWeak, referentFound, OneCode}
+use Rattle.ask_field.specs.Sought.{placed, elementAt, codeAt, codeFromTable, stops, ifRead, decoded, soughtIn, soughtTarget, fieldFound, firstWeak, orWeak, referentFound, OneCode}
 use Rattle.ask_field.specs.declared.Sought.{Sought}
 use Rattle.ask_field.specs.declared.Sought.the-variants.{At, Nothing, Bad}
 use Rattle.ask_span.proofs.Spans.{asked-reads, span-read, span-none, span-columns, weak-sorted, weak-climbs, weak-even, weak-read, weak-columns}
 use Rattle.ask_span.proofs.FirstEdge.{first-edge}
 use Rattle.ask_span.proofs.Escapes.{escapes-rising, escapes-paired, edge-reads}
-use Rattle.ask_field.proofs.Placed.{placed-none, placed-ext, first-ext}
-use Rattle.ask_field.proofs.Fields.{Coding, coding, sought-element, sought-other, sought-decoded, sought-coded}
+use Rattle.ask_field.proofs.Placed.{placed-none, placed-ext}
+use Rattle.ask_field.proofs.Fields.{CodedAs, coded-as, sought-element, sought-other, sought-decoded, sought-coded}
 
 beq-false : (b : Bool) → Bool·beq b false ≡ true → b ≡ false
 beq-false true e = absurd (false≢true e)
@@ -99,7 +100,7 @@ module _ (c : Columns) (o l : ℕ) (h : readsBack c o ≡ true) where
       go true t = sym (eq-eqb (coarseLabel d e k) l (element-label d e k t ∙ sym q))
       go false t = sym (ne-eqb (coarseLabel d e k) l (λ z. omega (arith, field-label d e k (edge-reads c o h k m) t)))
 
-  match-code : OneCode d e n → (x : ℕ) → Coding (d .fields) l x → (k : ℕ) → k < n → codeAt d e x k ≡ matches k
+  match-code : OneCode d e n → (x : ℕ) → CodedAs (d .fields) l x → (k : ℕ) → k < n → codeAt d e x k ≡ matches k
   match-code one x w k m = go (eqb (d .codes ! (e + k)) x) refl
     where
       go : (b : Bool) → eqb (d .codes ! (e + k)) x ≡ b → b ≡ matches k
@@ -128,7 +129,7 @@ module _ (c : Columns) (o l : ℕ) (h : readsBack c o ≡ true) where
   sought-read table one = go (eqb l ARRAY-ELEMENT) refl (isElement l) refl (eqb x 32767) refl
     where
       x : ℕ
-      x = codeIn (d .fields) table l
+      x = codeFromTable (d .fields) table l
 
       go : (a : Bool) → eqb l ARRAY-ELEMENT ≡ a → (b : Bool) → isElement l ≡ b → (z : Bool) → eqb x 32767 ≡ z → soughtIn d table e n l ≡ placed matches n
       go true p b q z r =
@@ -141,10 +142,10 @@ module _ (c : Columns) (o l : ℕ) (h : readsBack c o ≡ true) where
       go false p false q true r = sym (sought-decoded d table e n l (eqb-false l ARRAY-ELEMENT p) (leb-false ARRAY-ELEMENT l q) refl (eqb-true x 32767 r)) ∙ match-decoded
       go false p false q false r =
           sym (sought-coded d table e n l (eqb-false l ARRAY-ELEMENT p) (leb-false ARRAY-ELEMENT l q) refl (eqb-false x 32767 r))
-          ∙ placed-ext (codeAt d e x) matches n (match-code one x (coding (d .fields) table l _ (eqb-false x 32767 r)))
+          ∙ placed-ext (codeAt d e x) matches n (match-code one x (coded-as (d .fields) table l _ (eqb-false x 32767 r)))
 
   -- the rules' answer on the edges that are read
-  edges-read : targetOf (c .targets) e o (placed matches n) ≡ 0 ∷ fieldIn (edgesRead c o) l
+  edges-read : soughtTarget (c .targets) e o (placed matches n) ≡ 0 ∷ fieldIn (edgesRead c o) l
   unfolding placed fieldIn edgesRead
   edges-read =
       rw (first-edge (λ (x : Edge). eqb (coarse (x .label)) l) (edgeAt c o) n, ← first-ext matches (λ k. eqb (coarse (exactLabel d e k)) l) n (λ k m. ap (λ (z : ℕ). eqb z l) (coarse-code d e k (edge-reads c o h k m))))
@@ -153,7 +154,7 @@ module _ (c : Columns) (o l : ℕ) (h : readsBack c o ≡ true) where
       j : ℕ
       j = firstPlace matches n
 
-      go : (b : Bool) → targetOf (c .targets) e o (cond b (At j) Nothing) ≡ 0 ∷ targetsOf (cond b (some (edgeAt c o j)) none)
+      go : (b : Bool) → soughtTarget (c .targets) e o (cond b (At j) Nothing) ≡ 0 ∷ targetsOf (cond b (some (edgeAt c o j)) none)
       go true = refl
       go false = refl
 
@@ -186,7 +187,7 @@ module _ (c : Columns) (table : List ℕ) (o l : ℕ) where
       says : List ℕ
       says = spanIn c o
 
-      go : (b : Bool) (s : Sought) → eqb (cond b (targetOf (c .targets) (says ! 1) o s) says ! 0) 12 ≡ true → cond b (targetOf (c .targets) (says ! 1) o s) says ≡ 12 ∷ o ∷ []
+      go : (b : Bool) (s : Sought) → eqb (cond b (soughtTarget (c .targets) (says ! 1) o s) says ! 0) 12 ≡ true → cond b (soughtTarget (c .targets) (says ! 1) o s) says ≡ 12 ∷ o ∷ []
       go true (At k) q = absurd (false≢true q)
       go true Nothing q = absurd (false≢true q)
       go true Bad q = refl
@@ -199,7 +200,7 @@ module _ (c : Columns) (table : List ℕ) (o l : ℕ) where
   module _ (one : o < objectsIn c → readsBack c o ≡ true → OneCode (c .labels) (offsetAt c o) (edgesIn c o)) where
     field-read : o < objectsIn c → readsBack c o ≡ true → fieldFound c table o l ≡ 0 ∷ fieldIn (edgesRead c o) l
     unfolding fieldFound accepts
-    field-read m h = rw (span-read c o m h) (ap (targetOf (c .targets) (offsetAt c o) o) (sought-read c o l h table (one m h)) ∙ edges-read c o l h)
+    field-read m h = rw (span-read c o m h) (ap (soughtTarget (c .targets) (offsetAt c o) o) (sought-read c o l h table (one m h)) ∙ edges-read c o l h)
 
     -- `field` keeps the promise, whatever the table holds.
     pub field-promised : Promised o (fieldFound c table o l) (field c o l)

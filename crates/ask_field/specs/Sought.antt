@@ -32,12 +32,12 @@ abbrev pub slotIn : ℕ → ℕ → ℕ
 slotIn places l = cond (eqb l LOADER) (places - 2) l
 
 -- A label's code by the table, if it is a code of the fields and theirs is this label; else 32,767, which is no code.
-unfoldable pub codeBy : List ℕ → List ℕ → ℕ → ℕ → ℕ
-codeBy fields table l s =
+unfoldable pub codeFromSlot : List ℕ → List ℕ → ℕ → ℕ → ℕ
+codeFromSlot fields table l s =
     cond (allOf (ltb s (length table) ∷ ltb (table ! s) 32767 ∷ ltb (table ! s) (length fields) ∷ eqb (fields ! (table ! s)) l ∷ [])) (table ! s) 32767
 
-abbrev pub codeIn : List ℕ → List ℕ → ℕ → ℕ
-codeIn fields table l = codeBy fields table l (slotIn (length table) l)
+abbrev pub codeFromTable : List ℕ → List ℕ → ℕ → ℕ
+codeFromTable fields table l = codeFromSlot fields table l (slotIn (length table) l)
 
 -- A label without a code: edge by edge, up to the first that has the label, or that cannot be read.
 abbrev pub stopsAt : ℕ → List ℕ → Bool
@@ -58,17 +58,17 @@ decoded d e n l = cond (ltb (firstPlace (stops d e l) n) n) (ifRead (coarseBack 
 unfoldable pub soughtIn : Coded → List ℕ → ℕ → ℕ → ℕ → Sought
 soughtIn d table e n l =
     cond (eqb l ARRAY-ELEMENT) (placed (elementAt d e) n)
-    (cond (isElement l) Nothing (cond (eqb (codeIn (d .fields) table l) 32767) (decoded d e n l) (placed (codeAt d e (codeIn (d .fields) table l)) n)))
+    (cond (isElement l) Nothing (cond (eqb (codeFromTable (d .fields) table l) 32767) (decoded d e n l) (placed (codeAt d e (codeFromTable (d .fields) table l)) n)))
 
-abbrev pub targetOf : List ℕ → ℕ → ℕ → Sought → List ℕ
-targetOf ts e o (At k) = 0 ∷ ts ! (e + k) ∷ []
-targetOf ts e o Nothing = 0 ∷ []
-targetOf ts e o Bad = 12 ∷ o ∷ []
+abbrev pub soughtTarget : List ℕ → ℕ → ℕ → Sought → List ℕ
+soughtTarget ts e o (At k) = 0 ∷ ts ! (e + k) ∷ []
+soughtTarget ts e o Nothing = 0 ∷ []
+soughtTarget ts e o Bad = 12 ∷ o ∷ []
 
 unfoldable pub fieldFound : Columns → List ℕ → ℕ → ℕ → List ℕ
 fieldFound c table o l =
     let s = spanIn c o in
-    cond (accepts s) (targetOf (c .targets) (s ! 1) o (soughtIn (c .labels) table (s ! 1) (s ! 2 - s ! 1) l)) s
+    cond (accepts s) (soughtTarget (c .targets) (s ! 1) o (soughtIn (c .labels) table (s ! 1) (s ! 2 - s ! 1) l)) s
 
 -- "`referent` tries the field, then the smallest weak target": of sorted pairs, that of the first row.
 unfoldable pub firstWeak : List ℕ → List ℕ → List ℕ

@@ -8,15 +8,16 @@ use rules::Referent;
 use rules::Span;
 use rules::WeakReferents;
 ghost use mathlib.Core.Path.{_≡_};
-ghost use mathlib.Core.List.{[], _∷_};
+ghost use mathlib.Core.List.{[]};
 ghost use Prim.Native.Nat.{_+_, _<_, _≤_};
 ghost use lib.ListN.{length};
+ghost use Rattle.columns.specs.Loans.{entry};
 ghost use Rattle.columns.specs.Lists.{_!_};
 ghost use Rattle.rules.specs.Types.{fieldSays, referentSays};
 ghost use Rattle.labels.specs.Reading.{codedOf};
 ghost use Rattle.ask_span.specs.Reading.{weakOf};
-ghost use Rattle.ask_span.specs.Graph.{graphOf};
-ghost use Rattle.ask_field.specs.Sought.{placed, elementAt, codeAt, slotIn, codeIn, decoded, soughtIn, targetOf, fieldFound, firstWeak, referentFound};
+ghost use Rattle.ask_span.specs.Graph.{graphColumns, edgeColumns};
+ghost use Rattle.ask_field.specs.Sought.{placed, elementAt, codeAt, slotIn, codeFromTable, decoded, soughtIn, fieldFound, firstWeak, referentFound};
 
 // The first edge that matches: its number among the object's. Bad where an edge before it cannot be read.
 pub enum Sought {
@@ -40,7 +41,7 @@ fn slot(label: u32, places: usize) -> usize
 
 // A label's code by the table, if the fields agree.
 pub fn code_of(fields: &[u32], table: &[u16], label: u32) -> u16
-    ensures { λ r. ⌜ r ≡ codeIn (now (fields .entry)) (now (table .entry)) label ⌝ }
+    ensures { λ r. ⌜ r ≡ codeFromTable (entry fields) (entry table) label ⌝ }
 {
     let at = slot(label, table.len());
     if table.len() <= at {
@@ -61,7 +62,7 @@ pub fn code_of(fields: &[u32], table: &[u16], label: u32) -> u16
 
 pub fn first_element(codes: &[u16], start: usize, count: usize) -> Sought
     requires { ⌜ start + count ≤ length (now codes) ⌝ }
-    ensures { λ r. ⌜ r ≡ placed (elementAt (codedOf (now (codes .entry)) [] [] []) start) count ⌝ }
+    ensures { λ r. ⌜ r ≡ placed (elementAt (codedOf (entry codes) [] [] []) start) count ⌝ }
 {
     let mut k = 0;
     while k < count {
@@ -76,7 +77,7 @@ pub fn first_element(codes: &[u16], start: usize, count: usize) -> Sought
 
 pub fn first_code(codes: &[u16], start: usize, count: usize, code: u16) -> Sought
     requires { ⌜ start + count ≤ length (now codes) ⌝ }
-    ensures { λ r. ⌜ r ≡ placed (codeAt (codedOf (now (codes .entry)) [] [] []) start code) count ⌝ }
+    ensures { λ r. ⌜ r ≡ placed (codeAt (codedOf (entry codes) [] [] []) start code) count ⌝ }
 {
     let mut k = 0;
     while k < count {
@@ -100,7 +101,7 @@ fn first_label(
     label: u32,
 ) -> Sought
     requires { ⌜ start + count ≤ length (now codes) ⌝ }
-    ensures { λ r. ⌜ r ≡ decoded (codedOf (now (codes .entry)) (now (fields .entry)) (now («escape_at» .entry)) (now («escape_label» .entry))) start count label ⌝ }
+    ensures { λ r. ⌜ r ≡ decoded (codedOf (entry codes) (entry fields) (entry «escape_at») (entry «escape_label»)) start count label ⌝ }
 {
     let mut k = 0;
     while k < count {
@@ -132,7 +133,7 @@ fn seek(
     label: u32,
 ) -> Sought
     requires { ⌜ start + count ≤ length (now codes) ⌝ }
-    ensures { λ r. ⌜ r ≡ soughtIn (codedOf (now (codes .entry)) (now (fields .entry)) (now («escape_at» .entry)) (now («escape_label» .entry))) (now (table .entry)) start count label ⌝ }
+    ensures { λ r. ⌜ r ≡ soughtIn (codedOf (entry codes) (entry fields) (entry «escape_at») (entry «escape_label»)) (entry table) start count label ⌝ }
 {
     if label == Label::ARRAY_ELEMENT {
         return first_element(codes, start, count);
@@ -149,7 +150,7 @@ fn seek(
 
 pub fn target_at(targets: &[u32], edge: usize) -> u32
     requires { ⌜ edge < length (now targets) ⌝ }
-    ensures { λ r. ⌜ r ≡ now (targets .entry) ! edge ⌝ }
+    ensures { λ r. ⌜ r ≡ entry targets ! edge ⌝ }
 {
     targets[edge]
 }
@@ -169,7 +170,9 @@ pub fn field(
     object: usize,
     label: u32,
 ) -> Field
-    ensures { λ r. ⌜ fieldSays r ≡ fieldFound (graphOf (now (bases .entry)) (now (short .entry)) (now («long_at» .entry)) (now («long_value» .entry)) (now (codes .entry)) (now (targets .entry)) (now (fields .entry)) (now («escape_at» .entry)) (now («escape_label» .entry)) [] []) (now (table .entry)) object label ⌝ }
+    ensures { λ r. ⌜ (
+        let graph = edgeColumns entry bases short «long_at» «long_value» codes targets fields «escape_at» «escape_label» in
+        fieldSays r ≡ fieldFound graph (entry table) object label) ⌝ }
 {
     let at = ask_span::span(bases, short, long_at, long_value, codes, targets, object);
     match at {
@@ -197,7 +200,7 @@ pub fn field(
 
 // The first of an object's weak targets: pairs are sorted, so that it is the smallest.
 pub fn first_weak(short: &[u16], weak_from: &[u32], weak_to: &[u32], object: usize) -> Referent
-    ensures { λ r. ⌜ referentSays r ≡ firstWeak (weakOf (length (now (short .entry))) (now («weak_from» .entry)) (now («weak_to» .entry)) object) (now («weak_to» .entry)) ⌝ }
+    ensures { λ r. ⌜ referentSays r ≡ firstWeak (weakOf (length (entry short)) (entry «weak_from») (entry «weak_to») object) (entry «weak_to») ⌝ }
 {
     let at = ask_span::weak_referents(short, weak_from, weak_to, object);
     match at {
@@ -229,7 +232,9 @@ pub fn referent(
     object: usize,
     label: u32,
 ) -> Referent
-    ensures { λ r. ⌜ referentSays r ≡ referentFound (graphOf (now (bases .entry)) (now (short .entry)) (now («long_at» .entry)) (now («long_value» .entry)) (now (codes .entry)) (now (targets .entry)) (now (fields .entry)) (now («escape_at» .entry)) (now («escape_label» .entry)) (now («weak_from» .entry)) (now («weak_to» .entry))) (now (table .entry)) object label ⌝ }
+    ensures { λ r. ⌜ (
+        let graph = graphColumns entry bases short «long_at» «long_value» codes targets fields «escape_at» «escape_label» «weak_from» «weak_to» in
+        referentSays r ≡ referentFound graph (entry table) object label) ⌝ }
 {
     let held = field(
         bases,

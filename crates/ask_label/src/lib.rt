@@ -6,14 +6,14 @@ use rules::Label;
 use rules::LabelOf;
 use rules::Span;
 ghost use mathlib.Core.Path.{_≡_};
-ghost use mathlib.Core.List.{[], _∷_};
 ghost use Prim.Native.Nat.{_+_, _≤_};
 ghost use lib.ListN.{length};
+ghost use Rattle.columns.specs.Loans.{entry};
 ghost use Rattle.columns.specs.Lists.{firstPlace};
 ghost use Rattle.rules.specs.Types.{spanSays, coarseSays, exactSays, labelOfSays};
 ghost use Rattle.rules.specs.Questions.{exactOf, labelOf};
 ghost use Rattle.labels.specs.Reading.{readSays};
-ghost use Rattle.ask_span.specs.Graph.{graphOf, spanIn};
+ghost use Rattle.ask_span.specs.Graph.{edgeColumns, spanIn};
 ghost use Rattle.ask_label.specs.Labelled.{edgeAsked, orColumns, coarseAt, goesTo, Labelled};
 
 // The span of an object, where it has the edge asked; else INDEX with the edge.
@@ -76,7 +76,9 @@ pub fn coarse_label(
     object: usize,
     edge: usize,
 ) -> CoarseLabel
-    ensures { λ r. ⌜ coarseSays r ≡ coarseAt (graphOf (now (bases .entry)) (now (short .entry)) (now («long_at» .entry)) (now («long_value» .entry)) (now (codes .entry)) (now (targets .entry)) (now (fields .entry)) (now («escape_at» .entry)) (now («escape_label» .entry)) [] []) object edge ⌝ }
+    ensures { λ r. ⌜ (
+        let graph = edgeColumns entry bases short «long_at» «long_value» codes targets fields «escape_at» «escape_label» in
+        coarseSays r ≡ coarseAt graph object edge) ⌝ }
 {
     let whole = ask_span::span(bases, short, long_at, long_value, codes, targets, object);
     let at = with_edge(whole, edge);
@@ -104,7 +106,9 @@ pub fn exact_label(
     object: usize,
     edge: usize,
 ) -> ExactLabel
-    ensures { λ r. ⌜ Labelled object (edgeAsked (spanIn (graphOf (now (bases .entry)) (now (short .entry)) (now («long_at» .entry)) (now («long_value» .entry)) (now (codes .entry)) (now (targets .entry)) (now (fields .entry)) (now («escape_at» .entry)) (now («escape_label» .entry)) [] []) object) edge) (exactSays r) (exactOf (graphOf (now (bases .entry)) (now (short .entry)) (now («long_at» .entry)) (now («long_value» .entry)) (now (codes .entry)) (now (targets .entry)) (now (fields .entry)) (now («escape_at» .entry)) (now («escape_label» .entry)) [] []) object edge) ⌝ }
+    ensures { λ r. ⌜ (
+        let graph = edgeColumns entry bases short «long_at» «long_value» codes targets fields «escape_at» «escape_label» in
+        Labelled object (edgeAsked (spanIn graph object) edge) (exactSays r) (exactOf graph object edge)) ⌝ }
 {
     let whole = ask_span::span(bases, short, long_at, long_value, codes, targets, object);
     let at = with_edge(whole, edge);
@@ -121,7 +125,7 @@ pub fn exact_label(
 // The first of an object's edges that goes to a target; their number where none does.
 pub fn first_to(targets: &[u32], start: usize, count: usize, target: u32) -> usize
     requires { ⌜ start + count ≤ length (now targets) ⌝ }
-    ensures { λ r. ⌜ r ≡ firstPlace (goesTo (now (targets .entry)) start target) count ⌝ }
+    ensures { λ r. ⌜ r ≡ firstPlace (goesTo (entry targets) start target) count ⌝ }
 {
     let mut k = 0;
     while k < count {
@@ -148,7 +152,9 @@ pub fn label_of(
     object: usize,
     target: u32,
 ) -> LabelOf
-    ensures { λ r. ⌜ Labelled object (spanIn (graphOf (now (bases .entry)) (now (short .entry)) (now («long_at» .entry)) (now («long_value» .entry)) (now (codes .entry)) (now (targets .entry)) (now (fields .entry)) (now («escape_at» .entry)) (now («escape_label» .entry)) [] []) object) (labelOfSays r) (labelOf (graphOf (now (bases .entry)) (now (short .entry)) (now («long_at» .entry)) (now («long_value» .entry)) (now (codes .entry)) (now (targets .entry)) (now (fields .entry)) (now («escape_at» .entry)) (now («escape_label» .entry)) [] []) object target) ⌝ }
+    ensures { λ r. ⌜ (
+        let graph = edgeColumns entry bases short «long_at» «long_value» codes targets fields «escape_at» «escape_label» in
+        Labelled object (spanIn graph object) (labelOfSays r) (labelOf graph object target)) ⌝ }
 {
     let at = ask_span::span(bases, short, long_at, long_value, codes, targets, object);
     match at {

@@ -19,7 +19,7 @@ use Rattle.rules.proofs.Finished.{all-read, edges-read, span-asked, count-asked
 use Rattle.rules.proofs.Laid.{build-meets, objects-are}
 use Rattle.rules.proofs.Meets.{Meets}
 use Rattle.rules.proofs.Passes.{edges-few}
-use Rattle.ask_span.specs.Reading.{countOf, weakOf, partOf}
+use Rattle.ask_span.specs.Reading.{countOf, weakOf, spanPart}
 use Rattle.ask_span.specs.Graph.{spanIn}
 use Rattle.ask_span.proofs.Spans.{span-promised, count-promised, weak-promised, targets-read}
 
@@ -70,7 +70,7 @@ module _ (x : Input) (h : Passed x) (o : ℕ) where
   pub count-built : countOf (spanIn c o) ≡ plainly n o (0 ∷ length (edgesOf x o) ∷ [])
   count-built = built (count-promised c o) (count-asked x h o) (never-12 n o _)
 
-  pub targets-built : o < n → partOf (spanIn c o) (c .targets) ≡ map (λ (e : Edge). e .target) (edgesOf x o)
+  pub targets-built : o < n → spanPart (spanIn c o) (c .targets) ≡ map (λ (e : Edge). e .target) (edgesOf x o)
   targets-built l = targets-read c o (omega (arith, objects-built)) (all-read x h o l) ∙ ap (map (λ (e : Edge). e .target)) (edges-read x h o l)
 
   pub weak-built : weakOf (length (c .offsets .short)) (c .weakFrom) (c .weakTo) o ≡ plainly n o (0 ∷ rank (graph x .weakFrom) o ∷ rank (graph x .weakFrom) (suc o) ∷ [])

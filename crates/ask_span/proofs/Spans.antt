@@ -21,7 +21,7 @@ use Rattle.rules.specs.Parts.{pairAt, unsorted}
 use Rattle.rules.specs.Questions.{Columns, asked, objectsIn, offsetAt, edgesIn, edgeAt, edgesRead, readsBack, weakReads, span, edgeCount, weakReferents, Promised}
 use Rattle.rules.proofs.Asked.{targets-part}
 use Rattle.rules.proofs.Weak.{Sorted, pair-climbs}
-use Rattle.ask_span.specs.Reading.{ended, spanOf, countOf, partOf, weakOf}
+use Rattle.ask_span.specs.Reading.{ended, spanOf, countOf, spanPart, weakOf}
 
 abbrev tests : List ℕ → List ℕ → ℕ → ℕ → List Bool
 tests first next codes targets = accepts first ∷ accepts next ∷ leb (first ! 1) (next ! 1) ∷ leb (next ! 1) codes ∷ leb (next ! 1) targets ∷ []
@@ -56,16 +56,16 @@ span-inside c codes targets o {a} {b} e = go (ltb o (length (c .short) - 1)) e
     go false e = absurd (omega (arith, ap (λ (xs : List ℕ). xs ! 0) e))
 
 -- the part that a span says, where it is one of the column's
-pub part-falls : (xs : List ℕ) (a b : ℕ) → b < a → partOf (0 ∷ a ∷ b ∷ []) xs ≡ []
-unfolding partOf accepts allOf
+pub part-falls : (xs : List ℕ) (a b : ℕ) → b < a → spanPart (0 ∷ a ∷ b ∷ []) xs ≡ []
+unfolding spanPart accepts allOf
 part-falls xs a b l = rw (lt-leb a b l)
 
-pub part-past : (xs : List ℕ) (a b : ℕ) → a ≤ b → length xs < b → partOf (0 ∷ a ∷ b ∷ []) xs ≡ []
-unfolding partOf accepts allOf
+pub part-past : (xs : List ℕ) (a b : ℕ) → a ≤ b → length xs < b → spanPart (0 ∷ a ∷ b ∷ []) xs ≡ []
+unfolding spanPart accepts allOf
 part-past xs a b h l = rw (le-leb a b h, lt-leb b (length xs) l)
 
-pub part-is : (xs : List ℕ) (a b : ℕ) → a ≤ b → b ≤ length xs → partOf (0 ∷ a ∷ b ∷ []) xs ≡ part xs a b
-unfolding partOf accepts allOf
+pub part-is : (xs : List ℕ) (a b : ℕ) → a ≤ b → b ≤ length xs → spanPart (0 ∷ a ∷ b ∷ []) xs ≡ part xs a b
+unfolding spanPart accepts allOf
 part-is xs a b h l = rw (le-leb a b h, le-leb b (length xs) l)
 
 -- An answer that is asked of an object and is not COLUMNS was asked of one that reads.
@@ -137,9 +137,9 @@ module _ (c : Columns) (o : ℕ) where
   unfolding countOf accepts edgesRead
   count-read l h = ap countOf (span-read l h) ∙ ap (λ (n : ℕ). 0 ∷ n ∷ []) (sym (tab-length (edgeAt c o) (edgesIn c o)))
 
-  count-none : objectsIn c ≤ o → countOf (spanOf (c .offsets) codes targets o) ≡ 11 ∷ o ∷ []
+  count-index : objectsIn c ≤ o → countOf (spanOf (c .offsets) codes targets o) ≡ 11 ∷ o ∷ []
   unfolding countOf accepts
-  count-none l = ap countOf (span-none l)
+  count-index l = ap countOf (span-none l)
 
   count-columns : eqb (countOf (spanOf (c .offsets) codes targets o) ! 0) 12 ≡ true → countOf (spanOf (c .offsets) codes targets o) ≡ 12 ∷ o ∷ []
   unfolding countOf
@@ -155,7 +155,7 @@ module _ (c : Columns) (o : ℕ) where
 
   pub count-promised : Promised o (countOf (spanOf (c .offsets) codes targets o)) (edgeCount c o)
   unfolding edgeCount
-  count-promised = record { answered = asked-reads c o (readsBack c o) _ _ count-read count-none; columns = count-columns }
+  count-promised = record { answered = asked-reads c o (readsBack c o) _ _ count-read count-index; columns = count-columns }
 
   -- The weak rows, where the pairs are sorted.
   pub weak-sorted : weakReads c ≡ true → Sorted (c .weakFrom) (c .weakTo)
@@ -199,11 +199,11 @@ module _ (c : Columns) (o : ℕ) where
 
 -- The targets of an object that reads back: the part that its span says holds the targets of its edges.
 pub targets-read : (c : Columns) (o : ℕ) → o < objectsIn c → readsBack c o ≡ true
-    → partOf (spanOf (c .offsets) (length (c .labels .codes)) (length (c .targets)) o) (c .targets) ≡ map (λ (e : Edge). e .target) (edgesRead c o)
+    → spanPart (spanOf (c .offsets) (length (c .labels .codes)) (length (c .targets)) o) (c .targets) ≡ map (λ (e : Edge). e .target) (edgesRead c o)
 targets-read c o l h =
     let says = span-read c o l h in
     let inside = span-inside (c .offsets) (length (c .labels .codes)) (length (c .targets)) o says in
-    ap (λ (s : List ℕ). partOf s (c .targets)) says
+    ap (λ (s : List ℕ). spanPart s (c .targets)) says
     ∙ part-is (c .targets) (offsetAt c o) (offsetAt c (suc o)) (inside .ordered) (inside .targeted)
     ∙ sym (targets-part c o (inside .targeted))
 

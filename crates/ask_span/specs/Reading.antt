@@ -23,8 +23,8 @@ unfoldable pub countOf : List ℕ → List ℕ
 countOf says = cond (accepts says) (0 ∷ (says ! 2 - says ! 1) ∷ []) says
 
 -- the part of a column that a span says; empty where the span is a refusal, or none of that column's
-unfoldable pub partOf : List ℕ → List ℕ → List ℕ
-partOf says xs = cond (allOf (accepts says ∷ leb (says ! 1) (says ! 2) ∷ leb (says ! 2) (length xs) ∷ [])) (part xs (says ! 1) (says ! 2)) []
+unfoldable pub spanPart : List ℕ → List ℕ → List ℕ
+spanPart says xs = cond (allOf (accepts says ∷ leb (says ! 1) (says ! 2) ∷ leb (says ! 2) (length xs) ∷ [])) (part xs (says ! 1) (says ! 2)) []
 
 -- INDEX of the object; then the rows of its weak pairs, which bisection finds. COLUMNS where they fall or end past the targets: then the pairs are not sorted.
 unfoldable pub weakOf : ℕ → List ℕ → List ℕ → ℕ → List ℕ

@@ -7,9 +7,11 @@ ghost use mathlib.Core.Path.{_≡_};
 ghost use Prim.Native.Nat.{_<_};
 ghost use mathlib.Core.List.{[], _∷_};
 ghost use lib.ListN.{length};
-ghost use Rattle.store.specs.Blocked.{blockedOf, offsetSays};
+ghost use Rattle.columns.specs.Loans.{entry};
+ghost use Rattle.store.specs.Blocked.{offsetSays};
+ghost use Rattle.rules.specs.Tables.{offsetColumns};
 ghost use Rattle.rules.specs.Types.{spanSays, edgeCountSays, weakSays};
-ghost use Rattle.ask_span.specs.Reading.{spanOf, ended, countOf, partOf, weakOf};
+ghost use Rattle.ask_span.specs.Reading.{spanOf, ended, countOf, spanPart, weakOf};
 
 // A span that does not fall and ends within codes and targets.
 fn within(start: u64, end: u64, codes: usize, targets: usize, object: usize) -> Span
@@ -55,7 +57,7 @@ pub fn span(
     targets: &[u32],
     object: usize,
 ) -> Span
-    ensures { λ r. ⌜ spanSays r ≡ spanOf (blockedOf (now (bases .entry)) (now (short .entry)) (now («long_at» .entry)) (now («long_value» .entry))) (length (now (codes .entry))) (length (now (targets .entry))) object ⌝ }
+    ensures { λ r. ⌜ spanSays r ≡ spanOf (offsetColumns entry bases short «long_at» «long_value») (length (entry codes)) (length (entry targets)) object ⌝ }
 {
     if short.len() <= object {
         return Span::Index(object);
@@ -78,7 +80,7 @@ pub fn edge_count(
     targets: &[u32],
     object: usize,
 ) -> EdgeCount
-    ensures { λ r. ⌜ edgeCountSays r ≡ countOf (spanOf (blockedOf (now (bases .entry)) (now (short .entry)) (now («long_at» .entry)) (now («long_value» .entry))) (length (now (codes .entry))) (length (now (targets .entry))) object) ⌝ }
+    ensures { λ r. ⌜ edgeCountSays r ≡ countOf (spanOf (offsetColumns entry bases short «long_at» «long_value») (length (entry codes)) (length (entry targets)) object) ⌝ }
 {
     let at = span(bases, short, long_at, long_value, codes, targets, object);
     match at {
@@ -91,7 +93,7 @@ pub fn edge_count(
 // The targets of an object, as a part of their column, by the span that `span` gave, which says whether there is such an object. Of a refusal, or of a span that
 // is none of this column's, the part is empty.
 pub fn targets_of<'a>(targets: &'a [u32], at: Span) -> &'a [u32]
-    ensures { λ r. ⌜ now r ≡ partOf (spanSays at) (now (targets .entry)) ⌝ }
+    ensures { λ r. ⌜ now r ≡ spanPart (spanSays at) (entry targets) ⌝ }
 {
     match at {
         Span::Edges { start, end } => {
@@ -111,7 +113,7 @@ pub fn targets_of<'a>(targets: &'a [u32], at: Span) -> &'a [u32]
 // The codes of an object, as a part of their column, by the span that `span` gave, which says whether there is such an object. Of a refusal, or of a span that
 // is none of this column's, the part is empty.
 pub fn codes_of<'a>(codes: &'a [u16], at: Span) -> &'a [u16]
-    ensures { λ r. ⌜ now r ≡ partOf (spanSays at) (now (codes .entry)) ⌝ }
+    ensures { λ r. ⌜ now r ≡ spanPart (spanSays at) (entry codes) ⌝ }
 {
     match at {
         Span::Edges { start, end } => {
@@ -135,7 +137,7 @@ pub fn weak_referents(
     weak_to: &[u32],
     object: usize,
 ) -> WeakReferents
-    ensures { λ r. ⌜ weakSays r ≡ weakOf (length (now (short .entry))) (now («weak_from» .entry)) (now («weak_to» .entry)) object ⌝ }
+    ensures { λ r. ⌜ weakSays r ≡ weakOf (length (entry short)) (entry «weak_from») (entry «weak_to») object ⌝ }
 {
     if short.len() <= object {
         return WeakReferents::Index(object);

@@ -11,19 +11,26 @@ use Rattle.ask_label.proofs.exact_label.Statement.{statement}
 use Rattle.ask_label.proofs.exact_label.Tie as tie
 
 exact-requires : tie.Need-exact-requires
-exact-requires c κs = edge-in _ _ _ _ _ (sym (c .before .before .before .with-edge .ensures ∙ ap (λ (s : List ℕ). edgeAsked s (c .before .before .before .before .before .before .before .before .before .before .before .before .before .before .args .edge)) (c .before .before .before .before .span .ensures)) ∙ ap spanSays (c .before .at .given .1))
+exact-requires c κs =
+    let a = c .before .before .before .before .before .before .before .before .before .before .before .before .before .before .args in
+    edge-in _ _ _ _ _ (sym (c .before .before .before .with-edge .ensures ∙ ap (λ (s : List ℕ). edgeAsked s (a .edge)) (c .before .before .before .before .span .ensures)) ∙ ap spanSays (c .before .at .given .1))
 
 returns : tie.Need-returns
 returns c =
-    exact-is _ _ _ (sym (c .before .before .before .before .before .with-edge .ensures ∙ ap (λ (s : List ℕ). edgeAsked s (c .before .before .before .before .before .before .before .before .before .before .before .before .before .before .before .before .args .edge)) (c .before .before .before .before .before .before .span .ensures)) ∙ ap spanSays (c .before .before .before .at .given .1)) (c .before .exact .ensures) (c .exact-answer .ensures)
+    let a = c .before .before .before .before .before .before .before .before .before .before .before .before .before .before .before .before .args in
+    exact-is _ _ _ (sym (c .before .before .before .before .before .with-edge .ensures ∙ ap (λ (s : List ℕ). edgeAsked s (a .edge)) (c .before .before .before .before .before .before .span .ensures)) ∙ ap spanSays (c .before .before .before .at .given .1)) (c .before .exact .ensures) (c .exact-answer .ensures)
 
 returns-2 : tie.Need-returns-2
 unfolding accepts
-returns-2 c = exact-refused _ _ _ (sym (ap spanSays (c .before .at2 .given .1)) ∙ c .before .before .before .with-edge .ensures ∙ ap (λ (s : List ℕ). edgeAsked s (c .before .before .before .before .before .before .before .before .before .before .before .before .before .before .args .edge)) (c .before .before .before .before .span .ensures)) refl
+returns-2 c =
+    let a = c .before .before .before .before .before .before .before .before .before .before .before .before .before .before .args in
+    exact-refused _ _ _ (sym (ap spanSays (c .before .at2 .given .1)) ∙ c .before .before .before .with-edge .ensures ∙ ap (λ (s : List ℕ). edgeAsked s (a .edge)) (c .before .before .before .before .span .ensures)) refl
 
 returns-3 : tie.Need-returns-3
 unfolding accepts
-returns-3 c = exact-refused _ _ _ (sym (ap spanSays (c .before .at3 .given .1)) ∙ c .before .before .before .with-edge .ensures ∙ ap (λ (s : List ℕ). edgeAsked s (c .before .before .before .before .before .before .before .before .before .before .before .before .before .before .args .edge)) (c .before .before .before .before .span .ensures)) refl
+returns-3 c =
+    let a = c .before .before .before .before .before .before .before .before .before .before .before .before .before .before .args in
+    exact-refused _ _ _ (sym (ap spanSays (c .before .at3 .given .1)) ∙ c .before .before .before .with-edge .ensures ∙ ap (λ (s : List ℕ). edgeAsked s (a .edge)) (c .before .before .before .before .span .ensures)) refl
 
 pub exact-label-spec : {M : Type 1} → statement M
 exact-label-spec =
