@@ -277,7 +277,8 @@ pub extern "C" fn yokefathom_edge(
     escape_label: &[u32],
     answer: &mut [u64; 5],
 )
-    ensures { λ _. ⌜ exit answer ≡ told 5 (edgeNext (0 ∷ start ∷ end ∷ []) (entry targets) (entry codes) (entry fields) (entry «escape_at») (entry «escape_label») object k expected) ⌝ }
+    ensures { λ _. ⌜ exit answer ≡ told 5 (edgeNext (0 ∷ start ∷ end ∷ []) (entry targets) (entry codes)
+        (entry fields) (entry «escape_at») (entry «escape_label») object k expected) ⌝ }
 {
     let found = ask_edges::edge_of(
         targets,

@@ -15,7 +15,10 @@ pub extern "C" fn yokefathom_fill_columns(
     weak: &mut [u8],
     answer: &mut [u64; 4],
 )
-    ensures { λ _. ⌜ SlotsTold (left (rowsOf (entry «from_offsets») (entry «from_labels») (entry «from_weak»)) (length (entry offsets)) (length (entry labels)) (length (entry weak))) (exit answer) (exit offsets) (exit labels) (exit weak) ⌝ }
+    ensures { λ _. ⌜ (
+        let rows = rowsOf (entry «from_offsets») (entry «from_labels») (entry «from_weak») in
+        let filled = left rows (length (entry offsets)) (length (entry labels)) (length (entry weak)) in
+        SlotsTold filled (exit answer) (exit offsets) (exit labels) (exit weak)) ⌝ }
 {
     let filled = slot_rows::fill_columns(
         from_offsets,
