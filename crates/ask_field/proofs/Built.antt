@@ -17,10 +17,9 @@ use Rattle.rules.specs.Questions.{fieldIn, referentIn}
 use Rattle.rules.proofs.Acceptance.{Passed, names-few}
 use Rattle.rules.proofs.Asked.{offset-back, objects-same, field-plain, referent-plain}
 use Rattle.rules.proofs.Codes.{own-at, code-at, coarse-code, read-labels, fields-few}
-use Rattle.rules.proofs.Finished.{field-asked, referent-asked, never-12}
+use Rattle.rules.proofs.Finished.{labels-few, field-asked, referent-asked, never-12}
 use Rattle.rules.proofs.Laid.{build-meets}
 use Rattle.rules.proofs.Meets.{Meets, own}
-use Rattle.rules.proofs.Passes.{edges-few}
 use Rattle.ask_span.proofs.Built.{built, strong}
 use Rattle.ask_field.specs.Sought.{fieldFound, referentFound, OneCode}
 use Rattle.ask_span.proofs.Escapes.{edge-reads}
@@ -96,11 +95,8 @@ module _ (x : Input) (h : Passed x) (o : ℕ) where
   abbrev n : ℕ
   n = objectCount x
 
-  labels-few : length (graph x .labels) < 2 ^ 64
-  labels-few = omega (arith, edges-few x h, build-meets x h .counted)
-
   pub one-code : o < objectsIn c → readsBack c o ≡ true → OneCode (c .labels) (offsetAt c o) (edgesIn c o)
-  one-code = coded-so (x .schema) (graph x) (build-meets x h) (omega (arith, names-few x h)) labels-few o
+  one-code = coded-so (x .schema) (graph x) (build-meets x h) (omega (arith, names-few x h)) (labels-few x h) o
 
   pub field-built : (table : List ℕ) (l : ℕ) → fieldFound (strong c) table o l ≡ plainly n o (0 ∷ fieldIn (edgesOf x o) l)
   unfolding fieldFound

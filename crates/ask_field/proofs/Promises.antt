@@ -145,9 +145,9 @@ module _ (c : Columns) (o l : ℕ) (h : readsBack c o ≡ true) where
           ∙ placed-ext (codeAt d e x) matches n (match-code one x (coded-as (d .fields) table l _ (eqb-false x 32767 r)))
 
   -- the rules' answer on the edges that are read
-  edges-read : soughtTarget (c .targets) e o (placed matches n) ≡ 0 ∷ fieldIn (edgesRead c o) l
+  target-read : soughtTarget (c .targets) e o (placed matches n) ≡ 0 ∷ fieldIn (edgesRead c o) l
   unfolding placed fieldIn edgesRead
-  edges-read =
+  target-read =
       rw (first-edge (λ (x : Edge). eqb (coarse (x .label)) l) (edgeAt c o) n, ← first-ext matches (λ k. eqb (coarse (exactLabel d e k)) l) n (λ k m. ap (λ (z : ℕ). eqb z l) (coarse-code d e k (edge-reads c o h k m))))
       (go (ltb j n))
     where
@@ -200,7 +200,7 @@ module _ (c : Columns) (table : List ℕ) (o l : ℕ) where
   module _ (one : o < objectsIn c → readsBack c o ≡ true → OneCode (c .labels) (offsetAt c o) (edgesIn c o)) where
     field-read : o < objectsIn c → readsBack c o ≡ true → fieldFound c table o l ≡ 0 ∷ fieldIn (edgesRead c o) l
     unfolding fieldFound accepts
-    field-read m h = rw (span-read c o m h) (ap (soughtTarget (c .targets) (offsetAt c o) o) (sought-read c o l h table (one m h)) ∙ edges-read c o l h)
+    field-read m h = rw (span-read c o m h) (ap (soughtTarget (c .targets) (offsetAt c o) o) (sought-read c o l h table (one m h)) ∙ target-read c o l h)
 
     -- `field` keeps the promise, whatever the table holds.
     pub field-promised : Promised o (fieldFound c table o l) (field c o l)

@@ -15,10 +15,9 @@ use Rattle.rules.specs.Needs.{objectsOf}
 use Rattle.rules.specs.Questions.{Columns, columnsOf, edgesAt, plainly, objectsIn, Promised}
 use Rattle.rules.proofs.Acceptance.{Passed}
 use Rattle.rules.proofs.Asked.{objects-same, span-plain, count-plain, weak-plain}
-use Rattle.rules.proofs.Finished.{all-read, edges-read, span-asked, count-asked, weak-asked, never-12}
+use Rattle.rules.proofs.Finished.{labels-few, all-read, edges-read, span-asked, count-asked, weak-asked, never-12}
 use Rattle.rules.proofs.Laid.{build-meets, objects-are}
 use Rattle.rules.proofs.Meets.{Meets}
-use Rattle.rules.proofs.Passes.{edges-few}
 use Rattle.ask_span.specs.Reading.{countOf, weakOf, spanPart}
 use Rattle.ask_span.specs.Graph.{spanIn}
 use Rattle.ask_span.proofs.Spans.{span-promised, count-promised, weak-promised, targets-read}
@@ -58,11 +57,8 @@ module _ (x : Input) (h : Passed x) (o : ℕ) where
   abbrev n : ℕ
   n = objectCount x
 
-  labels-few : length (graph x .labels) < 2 ^ 64
-  labels-few = omega (arith, edges-few x h, build-meets x h .counted)
-
   objects-built : objectsIn c ≡ n
-  objects-built = objects-same (x .schema) (graph x) (build-meets x h) labels-few ∙ objects-are x
+  objects-built = objects-same (x .schema) (graph x) (build-meets x h) (labels-few x h) ∙ objects-are x
 
   pub span-built : spanIn c o ≡ plainly n o (0 ∷ offset x o ∷ offset x (suc o) ∷ [])
   span-built = built (span-promised c o) (span-asked x h o) (never-12 n o _)
