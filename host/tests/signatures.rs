@@ -10,7 +10,10 @@ fn exported(text: &str, into: &mut BTreeMap<String, String>) {
         let (parameters, rest) = rest.split_once(')').expect("the end of the parameters");
         let result = rest.lines().next().unwrap_or_default().trim();
         if name.chars().all(|c| c.is_alphanumeric() || c == '_') {
-            into.insert(name.to_string(), parameters.trim_end().trim_end_matches(',').split_whitespace().chain([result]).collect::<Vec<_>>().join(" "));
+            into.insert(
+                name.to_string(),
+                parameters.trim_end().trim_end_matches(',').split_whitespace().chain([result]).collect::<Vec<_>>().join(" "),
+            );
         }
     }
 }
