@@ -5,19 +5,8 @@ use std::path::{Path, PathBuf};
 use std::{env, fs};
 
 const PUBLISHED: [&str; 13] = [
-    "error.rs",
-    "hprof/mod.rs",
-    "store.rs",
-    "parallel.rs",
-    "sizes.rs",
-    "dump.rs",
-    "source.rs",
-    "detail.rs",
-    "analysis/duplicates.rs",
-    "index.rs",
-    "graph.rs",
-    "dom.rs",
-    "pattern.rs",
+    "error.rs", "hprof/mod.rs", "store.rs", "parallel.rs", "sizes.rs", "dump.rs", "source.rs", "detail.rs", "analysis/duplicates.rs",
+    "index.rs", "graph.rs", "dom.rs", "pattern.rs",
 ];
 const STAND_INS: [&str; 7] =
     ["hash.rs", "fmt.rs", "strings.rs", "analysis/mod.rs", "hprof/reader.rs", "hprof/archive.rs", "hprof/gunzip.rs"];

@@ -13,23 +13,8 @@ use crate::verdict;
 pub type Rooms = [usize; 17];
 
 const COLUMNS: [&str; 17] = [
-    "targets",
-    "labels",
-    "weak_from",
-    "weak_to",
-    "roots",
-    "working",
-    "bases",
-    "short",
-    "long_at",
-    "long_value",
-    "fields",
-    "table",
-    "escape_at",
-    "escape_label",
-    "codes",
-    "counting",
-    "ranking",
+    "targets", "labels", "weak_from", "weak_to", "roots", "working", "bases", "short", "long_at", "long_value", "fields", "table",
+    "escape_at", "escape_label", "codes", "counting", "ranking",
 ];
 
 /// The buffer of document 01 that each column belongs to.
@@ -132,26 +117,9 @@ pub fn input(title: &str, case: &Case, route: Route, rooms: &[Rooms], asked: &Qu
 pub fn needs(case: &Case, route: Route, graph: &Graph) -> Rooms {
     let (shown, places) = (graph.shown(), verdict::places(case, route) as usize);
     let (offsets, table, edges, weak) = (case.ids.len() + 1, case.names + 2, graph.all_targets().len(), graph.weak_edges().len());
-    let (long, escapes, roots) = (shown.long.len(), shown.escapes.len(), graph.roots.len());
-    [
-        places,
-        places,
-        weak,
-        weak,
-        roots,
-        offsets,
-        offsets.div_ceil(256),
-        offsets,
-        long,
-        long,
-        shown.fields.len(),
-        table,
-        escapes,
-        escapes,
-        edges,
-        table,
-        table,
-    ]
+    let (bases, long, fields, escapes) = (offsets.div_ceil(256), shown.long.len(), shown.fields.len(), shown.escapes.len());
+    let roots = graph.roots.len();
+    [places, places, weak, weak, roots, offsets, bases, offsets, long, long, fields, table, escapes, escapes, edges, table, table]
 }
 
 fn label(label: u32) -> String {
