@@ -12,9 +12,10 @@ use Rattle.columns.specs.Ranks.{bisect}
 use Rattle.columns.proofs.Ranks.{bisect-ranked}
 use Rattle.rules.specs.Questions.{Columns}
 use Rattle.labels.specs.Reading.{exactBack}
-use Rattle.ask_graph.specs.Reading.{weakOf}
-use Rattle.ask_graph.specs.Sought.{firstWeak}
-use Rattle.ask_graph.specs.Labelled.{spanIn, goesTo, orColumns}
+use Rattle.ask_span.specs.Reading.{weakOf}
+use Rattle.ask_span.specs.Graph.{spanIn}
+use Rattle.ask_label.specs.Labelled.{goesTo, orColumns}
+use Rattle.ask_field.specs.Sought.{firstWeak}
 use Rattle.ask_short.specs.Lean.{labelFound}
 
 module _ (c : Columns) (o t : ℕ) where
