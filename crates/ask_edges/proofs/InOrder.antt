@@ -73,8 +73,8 @@ module _ (a b : ℕ) (ts cs f ea el : List ℕ) (o k n : ℕ) where
   unfolding edgeNext accepts stepAt
   next-none l = rw (le-ltb k (length (spanPart (0 ∷ a ∷ b ∷ []) ts)) (omega (arith, part-few ts a b)))
 
-  pub none-left : b ≤ a → edgeNext (0 ∷ a ∷ b ∷ []) ts cs f ea el o k n ≡ 0 ∷ []
-  none-left l = next-none (omega arith)
+  pub no-edge-left : b ≤ a → edgeNext (0 ∷ a ∷ b ∷ []) ts cs f ea el o k n ≡ 0 ∷ []
+  no-edge-left l = next-none (omega arith)
 
   pub next-is : {t c read says : List ℕ} → t ≡ spanPart (0 ∷ a ∷ b ∷ []) ts → c ≡ spanPart (0 ∷ a ∷ b ∷ []) cs → read ≡ edgeBack (stepAt t c k (a + k) n) f ea el
       → says ≡ orObject o read → says ≡ edgeNext (0 ∷ a ∷ b ∷ []) ts cs f ea el o k n

@@ -21,10 +21,10 @@ unfoldable pub stepAt : List ℕ → List ℕ → ℕ → ℕ → ℕ → Step
 stepAt ts cs at edge next = cond (ltb at (length ts)) (cond (ltb at (length cs)) (Step.Edge (ts ! at) (cs ! at) edge next) Step.End) Step.End
 
 -- An edge: 0, its target, its exact label, and what is expected behind it. The end: 0 alone. A label that cannot be read: 12, COLUMNS, for the caller's object.
-abbrev pub edgeSays : ReadEdge → List ℕ
-edgeSays (ReadEdge.Edge t l n) = 0 ∷ t ∷ l ∷ n ∷ []
-edgeSays ReadEdge.End = 0 ∷ []
-edgeSays ReadEdge.Bad = 12 ∷ []
+abbrev pub readEdgeSays : ReadEdge → List ℕ
+readEdgeSays (ReadEdge.Edge t l n) = 0 ∷ t ∷ l ∷ n ∷ []
+readEdgeSays ReadEdge.End = 0 ∷ []
+readEdgeSays ReadEdge.Bad = 12 ∷ []
 
 abbrev pub withLabel : ℕ → ℕ → List ℕ → List ℕ
 withLabel t n [] = 12 ∷ []

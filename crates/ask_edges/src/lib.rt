@@ -4,7 +4,7 @@ use labels::EdgeLabel;
 use rules::Span;
 ghost use mathlib.Core.Path.{_≡_};
 ghost use Rattle.columns.specs.Loans.{entry};
-ghost use Rattle.ask_edges.specs.Read.{stepAt, edgeSays, withLabel, edgeBack, nextSays, orObject, edgeNext};
+ghost use Rattle.ask_edges.specs.Read.{stepAt, readEdgeSays, withLabel, edgeBack, nextSays, orObject, edgeNext};
 ghost use Rattle.rules.specs.Types.{spanSays};
 ghost use Rattle.labels.specs.Reading.{readSays};
 
@@ -123,7 +123,7 @@ pub fn edge_at(
     escape_at: &[u64],
     escape_label: &[u32],
 ) -> ReadEdge
-    ensures { λ r. ⌜ edgeSays r ≡ edgeBack (stepAt (entry targets) (entry codes) at edge expected) (entry fields) (entry «escape_at») (entry «escape_label») ⌝ }
+    ensures { λ r. ⌜ readEdgeSays r ≡ edgeBack (stepAt (entry targets) (entry codes) at edge expected) (entry fields) (entry «escape_at») (entry «escape_label») ⌝ }
 {
     let stands = read(targets, codes, at, edge, expected);
     match stands {
@@ -148,7 +148,7 @@ pub fn edge_at(
 }
 
 fn labelled(target: u32, label: EdgeLabel, expected: u32) -> ReadEdge
-    ensures { λ r. ⌜ edgeSays r ≡ withLabel target expected (readSays label) ⌝ }
+    ensures { λ r. ⌜ readEdgeSays r ≡ withLabel target expected (readSays label) ⌝ }
 {
     match label {
         EdgeLabel::Is(l) => ReadEdge::Edge {
@@ -161,7 +161,7 @@ fn labelled(target: u32, label: EdgeLabel, expected: u32) -> ReadEdge
 }
 
 fn answer(edge: ReadEdge, object: usize) -> NextEdge
-    ensures { λ r. ⌜ nextSays r ≡ orObject object (edgeSays edge) ⌝ }
+    ensures { λ r. ⌜ nextSays r ≡ orObject object (readEdgeSays edge) ⌝ }
 {
     match edge {
         ReadEdge::Edge {

@@ -14,9 +14,9 @@ use Rattle.rules.specs.Types.{ARRAY-ELEMENT, isElement}
 use Rattle.rules.specs.Labels.{Coded}
 use Rattle.rules.specs.Questions.{Columns}
 use Rattle.labels.specs.Reading.{coarseBack}
-use Rattle.ask_span.specs.Reading.{weakOf}
+use Rattle.ask_span.specs.Reading.{weakRowsOf}
 use Rattle.ask_span.specs.Graph.{spanIn}
-use Rattle.ask_field.specs.Sought.{placed, elementAt, codeAt, codeFromSlot, codeFromTable, stops, ifRead, decoded, soughtIn, soughtTarget, fieldFound, firstWeak, orWeak, referentFound}
+use Rattle.ask_field.specs.Sought.{firstSought, elementAt, hasCode, codeFromSlot, codeFromTable, stops, ifRead, decoded, soughtIn, soughtTarget, fieldFound, firstWeak, orWeak, referentFound}
 use Rattle.ask_field.specs.declared.Sought.{Sought}
 use Rattle.ask_field.specs.declared.Sought.the-variants.{At, Nothing}
 
@@ -64,7 +64,7 @@ coded-as fields table l s q = go (allOf tests) refl q
 
 -- Which case of `soughtIn` holds, and that an edge that is found is one of the n.
 module _ (d : Coded) (table : List ℕ) (e n l : ℕ) where
-  pub sought-element : l ≡ ARRAY-ELEMENT → placed (elementAt d e) n ≡ soughtIn d table e n l
+  pub sought-element : l ≡ ARRAY-ELEMENT → firstSought (elementAt d e) n ≡ soughtIn d table e n l
   unfolding soughtIn
   sought-element q = rw (eq-eqb l ARRAY-ELEMENT q)
 
@@ -77,12 +77,12 @@ module _ (d : Coded) (table : List ℕ) (e n l : ℕ) where
     unfolding soughtIn
     sought-decoded z = rw (ne-eqb l ARRAY-ELEMENT q, lt-leb ARRAY-ELEMENT l h, ← is, eq-eqb c 32767 z)
 
-    pub sought-coded : (c ≡ 32767 → ⊥) → placed (codeAt d e c) n ≡ soughtIn d table e n l
+    pub sought-coded : (c ≡ 32767 → ⊥) → firstSought (hasCode d e c) n ≡ soughtIn d table e n l
     unfolding soughtIn
     sought-coded z = rw (ne-eqb l ARRAY-ELEMENT q, lt-leb ARRAY-ELEMENT l h, ← is, ne-eqb c 32767 z)
 
-within-placed : (t : ℕ → Bool) (n k : ℕ) → At k ≡ placed t n → k < n
-unfolding placed
+within-placed : (t : ℕ → Bool) (n k : ℕ) → At k ≡ firstSought t n → k < n
+unfolding firstSought
 within-placed t n k e = go (ltb (firstPlace t n) n) refl e
   where
     go : (b : Bool) → ltb (firstPlace t n) n ≡ b → At k ≡ cond b (At (firstPlace t n)) Nothing → k < n
@@ -108,11 +108,11 @@ sought-within d table e n l {k} h = go (eqb l ARRAY-ELEMENT) (isElement l) (eqb 
     c : ℕ
     c = codeFromTable (d .fields) table l
 
-    go : (a b z : Bool) → At k ≡ cond a (placed (elementAt d e) n) (cond b Nothing (cond z (decoded d e n l) (placed (codeAt d e c) n))) → k < n
+    go : (a b z : Bool) → At k ≡ cond a (firstSought (elementAt d e) n) (cond b Nothing (cond z (decoded d e n l) (firstSought (hasCode d e c) n))) → k < n
     go true b z h = within-placed (elementAt d e) n k h
     go false true z h = let z : _≡_ {A = ℕ} 0 1 = cc in absurd (omega arith)
     go false false true h = within-decoded d e n l k h
-    go false false false h = within-placed (codeAt d e c) n k h
+    go false false false h = within-placed (hasCode d e c) n k h
 
 -- Which case of `fieldFound` holds.
 module _ (c : Columns) (table : List ℕ) (o l : ℕ) where
@@ -135,7 +135,7 @@ weak-first a b to l = rw (lt-ltb a b l)
 
 module _ (c : Columns) (table : List ℕ) (o l : ℕ) where
   abbrev weakly : List ℕ
-  weakly = firstWeak (weakOf (length (c .offsets .short)) (c .weakFrom) (c .weakTo) o) (c .weakTo)
+  weakly = firstWeak (weakRowsOf (length (c .offsets .short)) (c .weakFrom) (c .weakTo) o) (c .weakTo)
 
   pub referent-field : {t : ℕ} → 0 ∷ t ∷ [] ≡ fieldFound c table o l → 0 ∷ t ∷ [] ≡ referentFound c table o l
   unfolding referentFound accepts allOf

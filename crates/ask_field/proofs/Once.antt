@@ -22,15 +22,15 @@ use Rattle.labels.proofs.Ranking.{occurring-rises}
 use Rattle.labels.proofs.Listed.{fields-listed, fields-ranked, fields-named}
 
 -- no number stands twice
-abbrev pub Once : List ℕ → Type 0
-Once xs = (v : ℕ) → count v xs ≤ 1
+abbrev pub NoRepeat : List ℕ → Type 0
+NoRepeat xs = (v : ℕ) → count v xs ≤ 1
 
 stands : (xs : List ℕ) (i : ℕ) → i < length xs → 0 < count (xs ! i) xs
 stands [] i l = absurd (not-suc-le-zero l)
 stands (a ∷ xs) zero l = rw (eq-eqb a a refl) (omega arith)
 stands (a ∷ xs) (suc i) l = omega (arith, stands xs i (omega arith))
 
-rises-once : (xs : List ℕ) → Rises xs → Once xs
+rises-once : (xs : List ℕ) → Rises xs → NoRepeat xs
 rises-once [] rise v = omega arith
 rises-once (a ∷ xs) rise v = go (eqb a v) refl (rises-once xs (λ p q h l. rise (suc p) (suc q) (omega arith) (omega arith)) v)
   where
@@ -40,7 +40,7 @@ rises-once (a ∷ xs) rise v = go (eqb a v) refl (rises-once xs (λ p q h l. ris
         omega (arith, count-none v xs (λ i l. omega (arith, rise 0 (suc i) (omega arith) (omega arith))))
     go false t ih = omega arith
 
-sort-once : (le : ℕ → ℕ → Bool) (xs : List ℕ) → Once xs → Once (sort le xs)
+sort-once : (le : ℕ → ℕ → Bool) (xs : List ℕ) → NoRepeat xs → NoRepeat (sort le xs)
 sort-once le xs h v = omega (arith, sum-sort (λ a. one (eqb a v)) le xs, h v)
 
 take-fewer : (v k : ℕ) (xs : List ℕ) → count v (take k xs) ≤ count v xs
@@ -49,7 +49,7 @@ take-fewer v (suc k) [] = omega arith
 take-fewer v (suc k) (a ∷ xs) = omega (arith, take-fewer v k xs)
 
 -- what stands once is found where it stands
-find-once : (xs : List ℕ) → Once xs → (i : ℕ) → i < length xs → find xs (xs ! i) ≡ some i
+find-once : (xs : List ℕ) → NoRepeat xs → (i : ℕ) → i < length xs → find xs (xs ! i) ≡ some i
 find-once [] h i l = absurd (not-suc-le-zero l)
 find-once (a ∷ xs) h zero l = rw (eq-eqb a a refl)
 find-once (a ∷ xs) h (suc i) l = go (eqb a (xs ! i)) refl (h (xs ! i)) (find-once xs (λ v. omega (arith, h v)) i (omega arith))
@@ -60,7 +60,7 @@ find-once (a ∷ xs) h (suc i) l = go (eqb a (xs ! i)) refl (h (xs ! i)) (find-o
 
 module _ (names : ℕ) (few : names ≤ LOADER) (ns labels : List ℕ) where
   -- Listed fields rise, and ranked ones are among those that occur.
-  pub fields-once : Once (fieldsOf names ns labels)
+  pub fields-once : NoRepeat (fieldsOf names ns labels)
   unfolding listed firstOf ranked
   fields-once =
       ⊎-elim

@@ -12,26 +12,26 @@ use Rattle.columns.proofs.Parts.{first-ext}
 use Rattle.columns.proofs.Tests.{no-places}
 use Rattle.rules.specs.Labels.{Coded}
 use Rattle.labels.specs.Reading.{coarseBack}
-use Rattle.ask_field.specs.Sought.{placed, stops, decoded}
+use Rattle.ask_field.specs.Sought.{firstSought, stops, decoded}
 use Rattle.ask_field.specs.declared.Sought.the-variants.{At, Nothing, Bad}
 
 -- A walk that compares codes ends at the first edge that passes, or finds none.
 module _ (t : ℕ → Bool) (n : ℕ) where
-  pub placed-hit : {k : ℕ} → Searching t n k → k < n → t k ≡ true → At k ≡ placed t n
-  unfolding placed
+  pub placed-hit : {k : ℕ} → Searching t n k → k < n → t k ≡ true → At k ≡ firstSought t n
+  unfolding firstSought
   placed-hit {k} s l h = let e : firstPlace t n ≡ k = sym (searching-hit t n s l h) in rw (e, lt-ltb k n l)
 
-  pub placed-end : {k : ℕ} → Searching t n k → n ≤ k → Nothing ≡ placed t n
-  unfolding placed
+  pub placed-end : {k : ℕ} → Searching t n k → n ≤ k → Nothing ≡ firstSought t n
+  unfolding firstSought
   placed-end {k} s l = let e : firstPlace t n ≡ k = sym (searching-end t n s l) in rw (e, le-ltb k n l)
 
-  pub placed-none : ((k : ℕ) → k < n → t k ≡ false) → Nothing ≡ placed t n
-  unfolding placed
+  pub placed-none : ((k : ℕ) → k < n → t k ≡ false) → Nothing ≡ firstSought t n
+  unfolding firstSought
   placed-none h = rw (no-places t n h, le-ltb n n (omega arith))
 
 -- tests that agree on n edges have one first place
-pub placed-ext : (s t : ℕ → Bool) (n : ℕ) → ((k : ℕ) → k < n → s k ≡ t k) → placed s n ≡ placed t n
-unfolding placed
+pub placed-ext : (s t : ℕ → Bool) (n : ℕ) → ((k : ℕ) → k < n → s k ≡ t k) → firstSought s n ≡ firstSought t n
+unfolding firstSought
 placed-ext s t n h = ap (λ (j : ℕ). cond (ltb j n) (At j) Nothing) (first-ext s t n h)
 
 -- A walk that reads labels ends at the first edge that has the label, or that cannot be read.

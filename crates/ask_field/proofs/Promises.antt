@@ -27,12 +27,12 @@ use Rattle.rules.proofs.Codes.{coarse-code}
 use Rattle.rules.proofs.Weak.{weak-part, first-smallest}
 use Rattle.labels.specs.Reading.{coarseBack}
 use Rattle.labels.proofs.Back.{coarse-back}
-use Rattle.ask_span.specs.Reading.{weakOf}
+use Rattle.ask_span.specs.Reading.{weakRowsOf}
 use Rattle.ask_span.specs.Graph.{spanIn}
-use Rattle.ask_field.specs.Sought.{placed, elementAt, codeAt, codeFromTable, stops, ifRead, decoded, soughtIn, soughtTarget, fieldFound, firstWeak, orWeak, referentFound, OneCode}
+use Rattle.ask_field.specs.Sought.{firstSought, elementAt, hasCode, codeFromTable, stops, ifRead, decoded, soughtIn, soughtTarget, fieldFound, firstWeak, orWeak, referentFound, OneCode}
 use Rattle.ask_field.specs.declared.Sought.{Sought}
 use Rattle.ask_field.specs.declared.Sought.the-variants.{At, Nothing, Bad}
-use Rattle.ask_span.proofs.Spans.{asked-reads, span-read, span-none, span-columns, weak-sorted, weak-climbs, weak-even, weak-read, weak-columns}
+use Rattle.ask_span.proofs.Spans.{asked-reads, span-read, span-none, span-columns, weak-ordered, weak-climbs, weak-paired, weak-read, weak-columns}
 use Rattle.ask_span.proofs.FirstEdge.{first-edge}
 use Rattle.ask_span.proofs.Escapes.{escapes-rising, escapes-paired, edge-reads}
 use Rattle.ask_field.proofs.Placed.{placed-none, placed-ext}
@@ -100,7 +100,7 @@ module _ (c : Columns) (o l : ℕ) (h : readsBack c o ≡ true) where
       go true t = sym (eq-eqb (coarseLabel d e k) l (element-label d e k t ∙ sym q))
       go false t = sym (ne-eqb (coarseLabel d e k) l (λ z. omega (arith, field-label d e k (edge-reads c o h k m) t)))
 
-  match-code : OneCode d e n → (x : ℕ) → CodedAs (d .fields) l x → (k : ℕ) → k < n → codeAt d e x k ≡ matches k
+  match-code : OneCode d e n → (x : ℕ) → CodedAs (d .fields) l x → (k : ℕ) → k < n → hasCode d e x k ≡ matches k
   match-code one x w k m = go (eqb (d .codes ! (e + k)) x) refl
     where
       go : (b : Bool) → eqb (d .codes ! (e + k)) x ≡ b → b ≡ matches k
@@ -110,8 +110,8 @@ module _ (c : Columns) (o l : ℕ) (h : readsBack c o ≡ true) where
   back : (k : ℕ) → k < n → coarseBack d (e + k) ≡ coarseLabel d e k ∷ []
   back k m = coarse-back d (escapes-rising c o h) (escapes-paired c o h) e k (edge-reads c o h k m)
 
-  match-decoded : decoded d e n l ≡ placed matches n
-  unfolding decoded placed
+  match-decoded : decoded d e n l ≡ firstSought matches n
+  unfolding decoded firstSought
   match-decoded = ap walked (first-ext (stops d e l) matches n (λ k m. rw (back k m))) ∙ go (ltb j n) refl
     where
       j : ℕ
@@ -125,13 +125,13 @@ module _ (c : Columns) (o l : ℕ) (h : readsBack c o ≡ true) where
       go false t = refl
 
   -- what is sought is the first edge whose coarse label is the one asked
-  sought-read : (table : List ℕ) → OneCode d e n → soughtIn d table e n l ≡ placed matches n
+  sought-read : (table : List ℕ) → OneCode d e n → soughtIn d table e n l ≡ firstSought matches n
   sought-read table one = go (eqb l ARRAY-ELEMENT) refl (isElement l) refl (eqb x 32767) refl
     where
       x : ℕ
       x = codeFromTable (d .fields) table l
 
-      go : (a : Bool) → eqb l ARRAY-ELEMENT ≡ a → (b : Bool) → isElement l ≡ b → (z : Bool) → eqb x 32767 ≡ z → soughtIn d table e n l ≡ placed matches n
+      go : (a : Bool) → eqb l ARRAY-ELEMENT ≡ a → (b : Bool) → isElement l ≡ b → (z : Bool) → eqb x 32767 ≡ z → soughtIn d table e n l ≡ firstSought matches n
       go true p b q z r =
           let is : l ≡ ARRAY-ELEMENT = eqb-true l ARRAY-ELEMENT p in
           sym (sought-element d table e n l is) ∙ placed-ext (elementAt d e) matches n (match-element is)
@@ -142,11 +142,11 @@ module _ (c : Columns) (o l : ℕ) (h : readsBack c o ≡ true) where
       go false p false q true r = sym (sought-decoded d table e n l (eqb-false l ARRAY-ELEMENT p) (leb-false ARRAY-ELEMENT l q) refl (eqb-true x 32767 r)) ∙ match-decoded
       go false p false q false r =
           sym (sought-coded d table e n l (eqb-false l ARRAY-ELEMENT p) (leb-false ARRAY-ELEMENT l q) refl (eqb-false x 32767 r))
-          ∙ placed-ext (codeAt d e x) matches n (match-code one x (coded-as (d .fields) table l _ (eqb-false x 32767 r)))
+          ∙ placed-ext (hasCode d e x) matches n (match-code one x (coded-as (d .fields) table l _ (eqb-false x 32767 r)))
 
   -- the rules' answer on the edges that are read
-  target-read : soughtTarget (c .targets) e o (placed matches n) ≡ 0 ∷ fieldIn (edgesRead c o) l
-  unfolding placed fieldIn edgesRead
+  target-read : soughtTarget (c .targets) e o (firstSought matches n) ≡ 0 ∷ fieldIn (edgesRead c o) l
+  unfolding firstSought fieldIn edgesRead
   target-read =
       rw (first-edge (λ (x : Edge). eqb (coarse (x .label)) l) (edgeAt c o) n, ← first-ext matches (λ k. eqb (coarse (exactLabel d e k)) l) n (λ k m. ap (λ (z : ℕ). eqb z l) (coarse-code d e k (edge-reads c o h k m))))
       (go (ltb j n))
@@ -213,24 +213,24 @@ module _ (c : Columns) (table : List ℕ) (o l : ℕ) where
     field-or none ws vs q = q
     field-or (some x) ws vs q = refl
 
-    weakly-read : o < objectsIn c → weakReads c ≡ true → firstWeak (weakOf (length (c .offsets .short)) (c .weakFrom) (c .weakTo) o) (c .weakTo) ≡ 0 ∷ smallest (weakRead c o)
+    weakly-read : o < objectsIn c → weakReads c ≡ true → firstWeak (weakRowsOf (length (c .offsets .short)) (c .weakFrom) (c .weakTo) o) (c .weakTo) ≡ 0 ∷ smallest (weakRead c o)
     unfolding firstWeak accepts weakRead
     weakly-read m w =
         rw (weak-read c o m w) (first-row (c .weakTo) (rank (c .weakFrom) o) (rank (c .weakFrom) (suc o)) inside ∙ ap (λ (ts : List ℕ). 0 ∷ ts) (sym sorted))
       where
         inside : rank (c .weakFrom) (suc o) ≤ length (c .weakTo)
-        inside = omega (arith, rank-within (c .weakFrom) (suc o), weak-even c o w)
+        inside = omega (arith, rank-within (c .weakFrom) (suc o), weak-paired c o w)
 
         own : part (c .weakTo) (rank (c .weakFrom) o) (rank (c .weakFrom) (suc o)) ≡ weakIn (c .weakFrom) (c .weakTo) o
-        own = weak-part (c .weakFrom) (c .weakTo) o (sym (weak-even c o w)) (weak-climbs c o w)
+        own = weak-part (c .weakFrom) (c .weakTo) o (sym (weak-paired c o w)) (weak-climbs c o w)
 
         sorted : smallest (part (c .weakTo) (rank (c .weakFrom) o) (rank (c .weakFrom) (suc o))) ≡ take 1 (part (c .weakTo) (rank (c .weakFrom) o) (rank (c .weakFrom) (suc o)))
-        sorted = rw own (first-smallest (c .weakFrom) (c .weakTo) o (weak-sorted c o w))
+        sorted = rw own (first-smallest (c .weakFrom) (c .weakTo) o (weak-ordered c o w))
 
     referent-read : o < objectsIn c → allOf (readsBack c o ∷ weakReads c ∷ []) ≡ true → referentFound c table o l ≡ 0 ∷ referentIn (edgesRead c o) (weakRead c o) l
     unfolding referentFound fieldIn
     referent-read m h =
-        ap (λ (f : List ℕ). orWeak f (firstWeak (weakOf (length (c .offsets .short)) (c .weakFrom) (c .weakTo) o) (c .weakTo))) (field-read m (each-of _ h 0))
+        ap (λ (f : List ℕ). orWeak f (firstWeak (weakRowsOf (length (c .offsets .short)) (c .weakFrom) (c .weakTo) o) (c .weakTo))) (field-read m (each-of _ h 0))
         ∙ field-or (firstEdge (λ (x : Edge). eqb (coarse (x .label)) l) (edgesRead c o)) _ (weakRead c o) (weakly-read m (each-of _ h 1))
 
     referent-none : objectsIn c ≤ o → referentFound c table o l ≡ 11 ∷ o ∷ []
@@ -245,7 +245,7 @@ module _ (c : Columns) (table : List ℕ) (o l : ℕ) where
         f = fieldFound c table o l
 
         says : List ℕ
-        says = weakOf (length (c .offsets .short)) (c .weakFrom) (c .weakTo) o
+        says = weakRowsOf (length (c .offsets .short)) (c .weakFrom) (c .weakTo) o
 
         go : (b : Bool) → eqb (cond b (firstWeak says (c .weakTo)) f ! 0) 12 ≡ true → cond b (firstWeak says (c .weakTo)) f ≡ 12 ∷ o ∷ []
         go true = first-columns o says (c .weakTo) (weak-columns c o)

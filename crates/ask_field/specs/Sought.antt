@@ -11,21 +11,21 @@ use Rattle.rules.specs.Types.{LOADER, ARRAY-ELEMENT, isElement}
 use Rattle.rules.specs.Labels.{Coded, coarseLabel}
 use Rattle.rules.specs.Questions.{Columns}
 use Rattle.labels.specs.Reading.{coarseBack}
-use Rattle.ask_span.specs.Reading.{weakOf}
+use Rattle.ask_span.specs.Reading.{weakRowsOf}
 use Rattle.ask_span.specs.Graph.{spanIn}
 use Rattle.ask_field.specs.declared.Sought.{Sought}
 use Rattle.ask_field.specs.declared.Sought.the-variants.{At, Nothing, Bad}
 
 -- The first of n edges at which a test holds, if there is one.
-unfoldable pub placed : (ℕ → Bool) → ℕ → Sought
-placed t n = cond (ltb (firstPlace t n) n) (At (firstPlace t n)) Nothing
+unfoldable pub firstSought : (ℕ → Bool) → ℕ → Sought
+firstSought t n = cond (ltb (firstPlace t n) n) (At (firstPlace t n)) Nothing
 
 -- "Asked `ARRAY_ELEMENT`, the first element": an edge whose code is an element's. A field with a code: an edge with that code.
 abbrev pub elementAt : Coded → ℕ → ℕ → Bool
 elementAt d e k = leb 32768 (d .codes ! (e + k))
 
-abbrev pub codeAt : Coded → ℕ → ℕ → ℕ → Bool
-codeAt d e c k = eqb (d .codes ! (e + k)) c
+abbrev pub hasCode : Coded → ℕ → ℕ → ℕ → Bool
+hasCode d e c k = eqb (d .codes ! (e + k)) c
 
 -- where the code table has a label's code: the loader's stands behind those of the names, before the last
 abbrev pub slotIn : ℕ → ℕ → ℕ
@@ -57,8 +57,8 @@ decoded d e n l = cond (ltb (firstPlace (stops d e l) n) n) (ifRead (coarseBack 
 -- "`field` gives the first target whose coarse label matches: .. asked any other element label, nothing."
 unfoldable pub soughtIn : Coded → List ℕ → ℕ → ℕ → ℕ → Sought
 soughtIn d table e n l =
-    cond (eqb l ARRAY-ELEMENT) (placed (elementAt d e) n)
-    (cond (isElement l) Nothing (cond (eqb (codeFromTable (d .fields) table l) 32767) (decoded d e n l) (placed (codeAt d e (codeFromTable (d .fields) table l)) n)))
+    cond (eqb l ARRAY-ELEMENT) (firstSought (elementAt d e) n)
+    (cond (isElement l) Nothing (cond (eqb (codeFromTable (d .fields) table l) 32767) (decoded d e n l) (firstSought (hasCode d e (codeFromTable (d .fields) table l)) n)))
 
 abbrev pub soughtTarget : List ℕ → ℕ → ℕ → Sought → List ℕ
 soughtTarget ts e o (At k) = 0 ∷ ts ! (e + k) ∷ []
@@ -78,7 +78,7 @@ abbrev pub orWeak : List ℕ → List ℕ → List ℕ
 orWeak field weak = cond (allOf (accepts field ∷ eqb (length field) 1 ∷ [])) weak field
 
 unfoldable pub referentFound : Columns → List ℕ → ℕ → ℕ → List ℕ
-referentFound c table o l = orWeak (fieldFound c table o l) (firstWeak (weakOf (length (c .offsets .short)) (c .weakFrom) (c .weakTo) o) (c .weakTo))
+referentFound c table o l = orWeak (fieldFound c table o l) (firstWeak (weakRowsOf (length (c .offsets .short)) (c .weakFrom) (c .weakTo) o) (c .weakTo))
 
 -- Each label on the object's edges is coded in one way: an edge whose coarse label is among the fields has that field's code. So an accepted build codes them.
 abbrev pub OneCode : Coded → ℕ → ℕ → Type 0

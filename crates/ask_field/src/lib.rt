@@ -15,9 +15,9 @@ ghost use Rattle.columns.specs.Loans.{entry};
 ghost use Rattle.columns.specs.Lists.{_!_};
 ghost use Rattle.rules.specs.Types.{fieldSays, referentSays};
 ghost use Rattle.labels.specs.Reading.{codedOf};
-ghost use Rattle.ask_span.specs.Reading.{weakOf};
+ghost use Rattle.ask_span.specs.Reading.{weakRowsOf};
 ghost use Rattle.ask_span.specs.Graph.{graphColumns, edgeColumns};
-ghost use Rattle.ask_field.specs.Sought.{placed, elementAt, codeAt, slotIn, codeFromTable, decoded, soughtIn, fieldFound, firstWeak, referentFound};
+ghost use Rattle.ask_field.specs.Sought.{firstSought, elementAt, hasCode, slotIn, codeFromTable, decoded, soughtIn, fieldFound, firstWeak, referentFound};
 
 // The first edge that matches: its number among the object's. Bad where an edge before it cannot be read.
 pub enum Sought {
@@ -62,7 +62,7 @@ pub fn code_of(fields: &[u32], table: &[u16], label: u32) -> u16
 
 pub fn first_element(codes: &[u16], start: usize, count: usize) -> Sought
     requires { ⌜ start + count ≤ length (now codes) ⌝ }
-    ensures { λ r. ⌜ r ≡ placed (elementAt (codedOf (entry codes) [] [] []) start) count ⌝ }
+    ensures { λ r. ⌜ r ≡ firstSought (elementAt (codedOf (entry codes) [] [] []) start) count ⌝ }
 {
     let mut k = 0;
     while k < count {
@@ -77,7 +77,7 @@ pub fn first_element(codes: &[u16], start: usize, count: usize) -> Sought
 
 pub fn first_code(codes: &[u16], start: usize, count: usize, code: u16) -> Sought
     requires { ⌜ start + count ≤ length (now codes) ⌝ }
-    ensures { λ r. ⌜ r ≡ placed (codeAt (codedOf (entry codes) [] [] []) start code) count ⌝ }
+    ensures { λ r. ⌜ r ≡ firstSought (hasCode (codedOf (entry codes) [] [] []) start code) count ⌝ }
 {
     let mut k = 0;
     while k < count {
@@ -200,7 +200,7 @@ pub fn field(
 
 // The first of an object's weak targets: pairs are sorted, so that it is the smallest.
 pub fn first_weak(short: &[u16], weak_from: &[u32], weak_to: &[u32], object: usize) -> Referent
-    ensures { λ r. ⌜ referentSays r ≡ firstWeak (weakOf (length (entry short)) (entry «weak_from») (entry «weak_to») object) (entry «weak_to») ⌝ }
+    ensures { λ r. ⌜ referentSays r ≡ firstWeak (weakRowsOf (length (entry short)) (entry «weak_from») (entry «weak_to») object) (entry «weak_to») ⌝ }
 {
     let at = ask_span::weak_referents(short, weak_from, weak_to, object);
     match at {

@@ -50,8 +50,8 @@ held says k {a} {b} e = go (accepts says) refl (ltb k (says ! 2 - says ! 1)) ref
     go false t u q e = absurd (false≢true (sym t ∙ ap accepts e))
 
 -- an edge that exists stands within the codes
-pub edge-in : (c : Blocked) (codes targets o k : ℕ) {a b : ℕ} → edgeAsked (spanOf c codes targets o) k ≡ 0 ∷ a ∷ b ∷ [] → a + k < codes
-edge-in c codes targets o k e = let h = held (spanOf c codes targets o) k e in omega (arith, h .1, span-inside c codes targets o (h .0) .coded)
+pub edge-coded : (c : Blocked) (codes targets o k : ℕ) {a b : ℕ} → edgeAsked (spanOf c codes targets o) k ≡ 0 ∷ a ∷ b ∷ [] → a + k < codes
+edge-coded c codes targets o k e = let h = held (spanOf c codes targets o) k e in omega (arith, h .1, span-inside c codes targets o (h .0) .coded)
 
 -- The labels of an object that reads back.
 module _ (c : Columns) (o : ℕ) (h : readsBack c o ≡ true) where

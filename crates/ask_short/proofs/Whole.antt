@@ -17,10 +17,10 @@ use Rattle.rules.specs.Types.{ARRAY-ELEMENT, isElement}
 use Rattle.rules.specs.Labels.{Coded, isEscaped}
 use Rattle.rules.specs.Questions.{Columns}
 use Rattle.labels.specs.Reading.{rowBack, elementBack, fieldBack, codeBack, stepBack, nextOf, onward, nextBack, coarseBack, walkBack, exactBack}
-use Rattle.ask_span.specs.Reading.{ended, spanOf, weakOf}
+use Rattle.ask_span.specs.Reading.{ended, spanOf, weakRowsOf}
 use Rattle.ask_span.specs.Graph.{spanIn}
 use Rattle.ask_label.specs.Labelled.{goesTo, orColumns}
-use Rattle.ask_field.specs.Sought.{stops, decoded, placed, elementAt, codeAt, codeFromTable, soughtIn, soughtTarget, fieldFound, firstWeak, orWeak, referentFound}
+use Rattle.ask_field.specs.Sought.{stops, decoded, firstSought, elementAt, hasCode, codeFromTable, soughtIn, soughtTarget, fieldFound, firstWeak, orWeak, referentFound}
 use Rattle.ask_field.specs.declared.Sought.{Sought}
 use Rattle.ask_field.specs.declared.Sought.the-variants.{At, Nothing, Bad}
 use Rattle.ask_field.proofs.Placed.{decoded-bad, decoded-end}
@@ -225,10 +225,10 @@ unfolding soughtIn
 sought-whole d table e n l = go (eqb l ARRAY-ELEMENT) (isElement l) (eqb (codeFromTable (d .fields) table l) 32767)
   where
     x : Sought
-    x = placed (elementAt d e) n
+    x = firstSought (elementAt d e) n
 
     y : Sought
-    y = placed (codeAt d e (codeFromTable (d .fields) table l)) n
+    y = firstSought (hasCode d e (codeFromTable (d .fields) table l)) n
 
     go : (a b z : Bool) → (cond a x (cond b Nothing (cond z (decoded (plainCoded d) e n l) y)) ≡ Bad → ⊥) → cond a x (cond b Nothing (cond z (decoded (plainCoded d) e n l) y)) ≡ cond a x (cond b Nothing (cond z (decoded d e n l) y))
     go true b z q = refl
@@ -272,4 +272,4 @@ module _ (c : Columns) (table : List ℕ) (o l : ℕ) where
   referent-whole h = ap (λ (f : List ℕ). orWeak f w) (field-whole (or-reads (fieldFound (leanly c) table o l) w h))
     where
       w : List ℕ
-      w = firstWeak (weakOf (length (c .offsets .short)) (c .weakFrom) (c .weakTo) o) (c .weakTo)
+      w = firstWeak (weakRowsOf (length (c .offsets .short)) (c .weakFrom) (c .weakTo) o) (c .weakTo)

@@ -15,7 +15,7 @@ ghost use mathlib.Core.Bool.{true};
 ghost use Rattle.columns.specs.Loans.{entry};
 ghost use Rattle.columns.specs.Ranks.{bisect};
 ghost use Rattle.rules.specs.Types.{fieldSays, referentSays};
-ghost use Rattle.ask_span.specs.Reading.{weakOf};
+ghost use Rattle.ask_span.specs.Reading.{weakRowsOf};
 ghost use Rattle.ask_field.specs.Sought.{decoded, soughtIn, fieldFound, firstWeak, referentFound};
 ghost use Rattle.ask_short.specs.Lean.{plainOf, leanColumns, leanEdges};
 
@@ -118,7 +118,7 @@ fn absent(xs: &[u32], x: u64) -> bool
 
 // Whether an object is seen to have no weak pair by one bisection.
 fn no_weak(short: &[u16], weak_from: &[u32], weak_to: &[u32], object: usize) -> bool
-    ensures { λ r. ⌜ (r ≡ true → firstWeak (weakOf (length (entry short)) (entry «weak_from») (entry «weak_to») object) (entry «weak_to») ≡ 0 ∷ []) ⌝ }
+    ensures { λ r. ⌜ (r ≡ true → firstWeak (weakRowsOf (length (entry short)) (entry «weak_from») (entry «weak_to») object) (entry «weak_to») ≡ 0 ∷ []) ⌝ }
 {
     if short.len() <= object {
         return false;
@@ -134,7 +134,7 @@ fn no_weak(short: &[u16], weak_from: &[u32], weak_to: &[u32], object: usize) -> 
 
 // The first of an object's weak targets. Few objects have one, so that is looked at first.
 fn first_weak(short: &[u16], weak_from: &[u32], weak_to: &[u32], object: usize) -> Referent
-    ensures { λ r. ⌜ referentSays r ≡ firstWeak (weakOf (length (entry short)) (entry «weak_from») (entry «weak_to») object) (entry «weak_to») ⌝ }
+    ensures { λ r. ⌜ referentSays r ≡ firstWeak (weakRowsOf (length (entry short)) (entry «weak_from») (entry «weak_to») object) (entry «weak_to») ⌝ }
 {
     let none = no_weak(short, weak_from, weak_to, object);
     if none {

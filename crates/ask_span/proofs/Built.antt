@@ -18,7 +18,7 @@ use Rattle.rules.proofs.Asked.{objects-same, span-plain, count-plain, weak-plai
 use Rattle.rules.proofs.Finished.{labels-few, all-read, edges-read, span-asked, count-asked, weak-asked, never-12}
 use Rattle.rules.proofs.Laid.{build-meets, objects-are}
 use Rattle.rules.proofs.Meets.{Meets}
-use Rattle.ask_span.specs.Reading.{countOf, weakOf, spanPart}
+use Rattle.ask_span.specs.Reading.{countOf, weakRowsOf, spanPart}
 use Rattle.ask_span.specs.Graph.{spanIn}
 use Rattle.ask_span.proofs.Spans.{span-promised, count-promised, weak-promised, targets-read}
 
@@ -46,7 +46,7 @@ module _ (s : Schema) (p : Parts) (law : Meets (s .names) p) (small : s .names �
     count-kept = built (count-promised g o) (count-plain s p law few wide o) (never-12 m o _)
 
     module _ (even : length (p .weakFrom) ≡ length (p .weakTo)) where
-      pub weak-kept : weakOf (length (g .offsets .short)) (g .weakFrom) (g .weakTo) o ≡ plainly m o (0 ∷ rank (p .weakFrom) o ∷ rank (p .weakFrom) (suc o) ∷ [])
+      pub weak-kept : weakRowsOf (length (g .offsets .short)) (g .weakFrom) (g .weakTo) o ≡ plainly m o (0 ∷ rank (p .weakFrom) o ∷ rank (p .weakFrom) (suc o) ∷ [])
       weak-kept = built (weak-promised g o) (weak-plain s p law few wide o even) (never-12 m o _)
 
 -- The columns of an accepted build: the same question on the object's edges, as the input gives them.
@@ -69,5 +69,5 @@ module _ (x : Input) (h : Passed x) (o : ℕ) where
   pub targets-built : o < n → spanPart (spanIn c o) (c .targets) ≡ map (λ (e : Edge). e .target) (edgesOf x o)
   targets-built l = targets-read c o (omega (arith, objects-built)) (all-read x h o l) ∙ ap (map (λ (e : Edge). e .target)) (edges-read x h o l)
 
-  pub weak-built : weakOf (length (c .offsets .short)) (c .weakFrom) (c .weakTo) o ≡ plainly n o (0 ∷ rank (graph x .weakFrom) o ∷ rank (graph x .weakFrom) (suc o) ∷ [])
+  pub weak-built : weakRowsOf (length (c .offsets .short)) (c .weakFrom) (c .weakTo) o ≡ plainly n o (0 ∷ rank (graph x .weakFrom) o ∷ rank (graph x .weakFrom) (suc o) ∷ [])
   weak-built = built (weak-promised c o) (weak-asked x h o) (never-12 n o _)

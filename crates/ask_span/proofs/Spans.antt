@@ -21,7 +21,7 @@ use Rattle.rules.specs.Parts.{pairAt, unsorted}
 use Rattle.rules.specs.Questions.{Columns, asked, objectsIn, offsetAt, edgesIn, edgeAt, edgesRead, readsBack, weakReads, span, edgeCount, weakReferents, Promised}
 use Rattle.rules.proofs.Asked.{targets-part}
 use Rattle.rules.proofs.Weak.{Sorted, pair-climbs}
-use Rattle.ask_span.specs.Reading.{ended, spanOf, countOf, spanPart, weakOf}
+use Rattle.ask_span.specs.Reading.{ended, spanOf, countOf, spanPart, weakRowsOf}
 
 abbrev tests : List ℕ → List ℕ → ℕ → ℕ → List Bool
 tests first next codes targets = accepts first ∷ accepts next ∷ leb (first ! 1) (next ! 1) ∷ leb (next ! 1) codes ∷ leb (next ! 1) targets ∷ []
@@ -158,23 +158,23 @@ module _ (c : Columns) (o : ℕ) where
   count-promised = record { answered = asked-reads c o (readsBack c o) _ _ count-read count-index; columns = count-columns }
 
   -- The weak rows, where the pairs are sorted.
-  pub weak-sorted : weakReads c ≡ true → Sorted (c .weakFrom) (c .weakTo)
+  pub weak-ordered : weakReads c ≡ true → Sorted (c .weakFrom) (c .weakTo)
   unfolding weakReads Sorted
-  weak-sorted h i l = before (any-false (unsorted (c .weakFrom) (c .weakTo)) _ (suc i) (not-true _ (each-of _ h 1)) l)
+  weak-ordered h i l = before (any-false (unsorted (c .weakFrom) (c .weakTo)) _ (suc i) (not-true _ (each-of _ h 1)) l)
     where
       before : unsorted (c .weakFrom) (c .weakTo) (suc i) ≡ false → pairLe (pairAt (c .weakFrom) (c .weakTo) i) (pairAt (c .weakFrom) (c .weakTo) (suc i)) ≡ true
       before e = not-false _ (second-fails _ _ e (lt-ltb 0 (suc i) (omega arith)))
 
   pub weak-climbs : weakReads c ≡ true → Climbs (c .weakFrom)
   unfolding Sorted
-  weak-climbs h i l = pair-climbs (pairAt (c .weakFrom) (c .weakTo) i) (pairAt (c .weakFrom) (c .weakTo) (suc i)) (weak-sorted h i l)
+  weak-climbs h i l = pair-climbs (pairAt (c .weakFrom) (c .weakTo) i) (pairAt (c .weakFrom) (c .weakTo) (suc i)) (weak-ordered h i l)
 
-  pub weak-even : weakReads c ≡ true → length (c .weakFrom) ≡ length (c .weakTo)
+  pub weak-paired : weakReads c ≡ true → length (c .weakFrom) ≡ length (c .weakTo)
   unfolding weakReads
-  weak-even h = eqb-true _ _ (each-of _ h 0)
+  weak-paired h = eqb-true _ _ (each-of _ h 0)
 
-  pub weak-read : o < objectsIn c → weakReads c ≡ true → weakOf (length (c .offsets .short)) (c .weakFrom) (c .weakTo) o ≡ 0 ∷ rank (c .weakFrom) o ∷ rank (c .weakFrom) (suc o) ∷ []
-  unfolding weakOf allOf
+  pub weak-read : o < objectsIn c → weakReads c ≡ true → weakRowsOf (length (c .offsets .short)) (c .weakFrom) (c .weakTo) o ≡ 0 ∷ rank (c .weakFrom) o ∷ rank (c .weakFrom) (suc o) ∷ []
+  unfolding weakRowsOf allOf
   weak-read l h =
       rw (
         lt-ltb o (objectsIn c) l,
@@ -182,20 +182,20 @@ module _ (c : Columns) (o : ℕ) where
         bisect-climbs (c .weakFrom) o (weak-climbs h),
         bisect-climbs (c .weakFrom) (suc o) (weak-climbs h),
         le-leb (rank (c .weakFrom) o) (rank (c .weakFrom) (suc o)) (rank-next (c .weakFrom) o),
-        le-leb (rank (c .weakFrom) (suc o)) (length (c .weakTo)) (omega (arith, rank-within (c .weakFrom) (suc o), weak-even h)),
+        le-leb (rank (c .weakFrom) (suc o)) (length (c .weakTo)) (omega (arith, rank-within (c .weakFrom) (suc o), weak-paired h)),
       )
 
-  pub weak-none : objectsIn c ≤ o → weakOf (length (c .offsets .short)) (c .weakFrom) (c .weakTo) o ≡ 11 ∷ o ∷ []
-  unfolding weakOf
-  weak-none l = rw (le-ltb o (objectsIn c) l)
+  pub weak-index : objectsIn c ≤ o → weakRowsOf (length (c .offsets .short)) (c .weakFrom) (c .weakTo) o ≡ 11 ∷ o ∷ []
+  unfolding weakRowsOf
+  weak-index l = rw (le-ltb o (objectsIn c) l)
 
-  pub weak-columns : eqb (weakOf (length (c .offsets .short)) (c .weakFrom) (c .weakTo) o ! 0) 12 ≡ true → weakOf (length (c .offsets .short)) (c .weakFrom) (c .weakTo) o ≡ 12 ∷ o ∷ []
-  unfolding weakOf
+  pub weak-columns : eqb (weakRowsOf (length (c .offsets .short)) (c .weakFrom) (c .weakTo) o ! 0) 12 ≡ true → weakRowsOf (length (c .offsets .short)) (c .weakFrom) (c .weakTo) o ≡ 12 ∷ o ∷ []
+  unfolding weakRowsOf
   weak-columns = columns-only (ltb o (objectsIn c)) (allOf (leb (bisect (c .weakFrom) o) (bisect (c .weakFrom) (o + 1)) ∷ leb (bisect (c .weakFrom) (o + 1)) (length (c .weakTo)) ∷ [])) o _
 
-  pub weak-promised : Promised o (weakOf (length (c .offsets .short)) (c .weakFrom) (c .weakTo) o) (weakReferents c o)
+  pub weak-promised : Promised o (weakRowsOf (length (c .offsets .short)) (c .weakFrom) (c .weakTo) o) (weakReferents c o)
   unfolding weakReferents
-  weak-promised = record { answered = asked-reads c o (weakReads c) _ _ weak-read weak-none; columns = weak-columns }
+  weak-promised = record { answered = asked-reads c o (weakReads c) _ _ weak-read weak-index; columns = weak-columns }
 
 -- The targets of an object that reads back: the part that its span says holds the targets of its edges.
 pub targets-read : (c : Columns) (o : ℕ) → o < objectsIn c → readsBack c o ≡ true
@@ -208,8 +208,8 @@ targets-read c o l h =
     ∙ sym (targets-part c o (inside .targeted))
 
 -- weak rows that are answered end within the targets
-pub weak-inside : (short : ℕ) (from to : List ℕ) (o : ℕ) {a b : ℕ} → weakOf short from to o ≡ 0 ∷ a ∷ b ∷ [] → b ≤ length to
-unfolding weakOf
+pub weak-inside : (short : ℕ) (from to : List ℕ) (o : ℕ) {a b : ℕ} → weakRowsOf short from to o ≡ 0 ∷ a ∷ b ∷ [] → b ≤ length to
+unfolding weakRowsOf
 weak-inside short from to o {a} {b} e = go (ltb o (short - 1)) (allOf rows) refl e
   where
     rows : List Bool

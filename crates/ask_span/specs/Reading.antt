@@ -27,8 +27,8 @@ unfoldable pub spanPart : List ℕ → List ℕ → List ℕ
 spanPart says xs = cond (allOf (accepts says ∷ leb (says ! 1) (says ! 2) ∷ leb (says ! 2) (length xs) ∷ [])) (part xs (says ! 1) (says ! 2)) []
 
 -- INDEX of the object; then the rows of its weak pairs, which bisection finds. COLUMNS where they fall or end past the targets: then the pairs are not sorted.
-unfoldable pub weakOf : ℕ → List ℕ → List ℕ → ℕ → List ℕ
-weakOf short from to o =
+unfoldable pub weakRowsOf : ℕ → List ℕ → List ℕ → ℕ → List ℕ
+weakRowsOf short from to o =
     cond (ltb o (short - 1))
     (cond (allOf (leb (bisect from o) (bisect from (o + 1)) ∷ leb (bisect from (o + 1)) (length to) ∷ [])) (0 ∷ bisect from o ∷ bisect from (o + 1) ∷ []) (12 ∷ o ∷ []))
     (11 ∷ o ∷ [])

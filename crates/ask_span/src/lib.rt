@@ -11,7 +11,7 @@ ghost use Rattle.columns.specs.Loans.{entry};
 ghost use Rattle.store.specs.Blocked.{offsetSays};
 ghost use Rattle.rules.specs.Tables.{offsetColumns};
 ghost use Rattle.rules.specs.Types.{spanSays, edgeCountSays, weakSays};
-ghost use Rattle.ask_span.specs.Reading.{spanOf, ended, countOf, spanPart, weakOf};
+ghost use Rattle.ask_span.specs.Reading.{spanOf, ended, countOf, spanPart, weakRowsOf};
 
 // A span that does not fall and ends within codes and targets.
 fn within(start: u64, end: u64, codes: usize, targets: usize, object: usize) -> Span
@@ -137,7 +137,7 @@ pub fn weak_referents(
     weak_to: &[u32],
     object: usize,
 ) -> WeakReferents
-    ensures { λ r. ⌜ weakSays r ≡ weakOf (length (entry short)) (entry «weak_from») (entry «weak_to») object ⌝ }
+    ensures { λ r. ⌜ weakSays r ≡ weakRowsOf (length (entry short)) (entry «weak_from») (entry «weak_to») object ⌝ }
 {
     if short.len() <= object {
         return WeakReferents::Index(object);

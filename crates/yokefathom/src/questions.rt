@@ -6,7 +6,7 @@ ghost use lib.ListN.{length};
 ghost use Rattle.columns.specs.Loans.{entry, exit};
 ghost use Rattle.rules.specs.Tables.{offsetColumns};
 ghost use Rattle.rules.specs.Questions.{exactOf, labelOf};
-ghost use Rattle.ask_span.specs.Reading.{spanOf, countOf, weakOf};
+ghost use Rattle.ask_span.specs.Reading.{spanOf, countOf, weakRowsOf};
 ghost use Rattle.ask_span.specs.Graph.{graphColumns, edgeColumns, spanIn};
 ghost use Rattle.ask_label.specs.Labelled.{edgeAsked, coarseAt, Labelled};
 ghost use Rattle.ask_field.specs.Sought.{fieldFound, referentFound};
@@ -62,7 +62,7 @@ pub extern "C" fn yokefathom_weak_referents(
     weak_to: &[u32],
     answer: &mut [u64; 4],
 )
-    ensures { λ _. ⌜ exit answer ≡ told 4 (weakOf (length (entry short)) (entry «weak_from») (entry «weak_to») object) ⌝ }
+    ensures { λ _. ⌜ exit answer ≡ told 4 (weakRowsOf (length (entry short)) (entry «weak_from») (entry «weak_to») object) ⌝ }
 {
     let found = ask_span::weak_referents(short, weak_from, weak_to, object);
     let says = answer_numbers::weak_referents(found);

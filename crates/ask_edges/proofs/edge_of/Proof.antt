@@ -6,7 +6,7 @@ use Rattle.columns.specs.Columns.{accepts}
 use Rattle.rules.specs.declared.Span.{Span}
 use Rattle.rules.specs.Types.{spanSays}
 use Rattle.ask_edges.specs.Read.{edgeNext}
-use Rattle.ask_edges.proofs.InOrder.{next-none, none-left, next-is}
+use Rattle.ask_edges.proofs.InOrder.{next-none, no-edge-left, next-is}
 use borrow.Author.Needs.{needs}
 use Rattle.ask_edges.proofs.edge_of.Statement.{statement}
 use Rattle.ask_edges.proofs.edge_of.Tie as tie
@@ -18,7 +18,7 @@ answers s at =
     edgeNext (spanSays at) (a .targets .now) (a .codes .now) (a .fields .now) (a .escape-at .now) (a .escape-label .now) (a .object) (a .k) (a .expected)
 
 returns : tie.Need-returns
-returns c = sym (ap (answers (c .before .before .before .before .before .before .before .before .before)) (c .before .before .at .given .1) ∙ none-left _ _ _ _ _ _ _ _ _ _ (c .if1 .taken))
+returns c = sym (ap (answers (c .before .before .before .before .before .before .before .before .before)) (c .before .before .at .given .1) ∙ no-edge-left _ _ _ _ _ _ _ _ _ _ (c .if1 .taken))
 
 returns-2 : tie.Need-returns-2
 returns-2 c = sym (ap (answers (c .before .before .before .before .before .before .before .before .before .before)) (c .before .before .before .at .given .1) ∙ next-none _ _ _ _ _ _ _ _ _ _ (c .if2 .taken))

@@ -4,14 +4,14 @@ use mathlib.Core.List.{[]}
 use borrow.Author.Tests.{eq-eqb, ne-eqb}
 use Rattle.columns.proofs.First.{Searching, searching-start, searching-more}
 use Rattle.labels.specs.Reading.{codedOf}
-use Rattle.ask_field.specs.Sought.{codeAt}
+use Rattle.ask_field.specs.Sought.{hasCode}
 use Rattle.ask_field.proofs.Placed.{placed-hit, placed-end}
 use borrow.Author.Needs.{needs}
 use Rattle.ask_field.proofs.first_code.Statement.{statement}
 use Rattle.ask_field.proofs.first_code.Tie as tie
 
 abbrev Inv-loop : tie.InvT-loop
-Inv-loop codes start count code k₀ k = Searching (codeAt (codedOf codes [] [] []) start code) count k
+Inv-loop codes start count code k₀ k = Searching (hasCode (codedOf codes [] [] []) start code) count k
 
 abbrev μ-loop : tie.MeasureT-loop
 μ-loop codes start count code k₀ k = count - k

@@ -6,7 +6,7 @@ use native.Mathlib.Omega.{arith}
 use Rattle.columns.specs.Columns.{accepts}
 use Rattle.rules.specs.Types.{spanSays}
 use Rattle.ask_label.specs.Labelled.{edgeAsked}
-use Rattle.ask_label.proofs.Labels.{edge-in, coarse-is, coarse-refused}
+use Rattle.ask_label.proofs.Labels.{edge-coded, coarse-is, coarse-refused}
 use borrow.Author.Needs.{needs}
 use Rattle.ask_label.proofs.coarse_label.Statement.{statement}
 use Rattle.ask_label.proofs.coarse_label.Tie as tie
@@ -14,12 +14,12 @@ use Rattle.ask_label.proofs.coarse_label.Tie as tie
 add-coarse : tie.Need-add-coarse
 add-coarse c =
     let a = c .before .before .before .before .before .before .before .before .before .before .before .before .before .before .args in
-    omega (arith, edge-in _ _ _ _ _ (sym (c .before .before .before .with-edge .ensures ∙ ap (λ (s : List ℕ). edgeAsked s (a .edge)) (c .before .before .before .before .span .ensures)) ∙ ap spanSays (c .before .at .given .1)))
+    omega (arith, edge-coded _ _ _ _ _ (sym (c .before .before .before .with-edge .ensures ∙ ap (λ (s : List ℕ). edgeAsked s (a .edge)) (c .before .before .before .before .span .ensures)) ∙ ap spanSays (c .before .at .given .1)))
 
 coarse-requires : tie.Need-coarse-requires
 coarse-requires c κs =
     let a = c .before .before .before .before .before .before .before .before .before .before .before .before .before .before .args in
-    edge-in _ _ _ _ _ (sym (c .before .before .before .with-edge .ensures ∙ ap (λ (s : List ℕ). edgeAsked s (a .edge)) (c .before .before .before .before .span .ensures)) ∙ ap spanSays (c .before .at .given .1))
+    edge-coded _ _ _ _ _ (sym (c .before .before .before .with-edge .ensures ∙ ap (λ (s : List ℕ). edgeAsked s (a .edge)) (c .before .before .before .before .span .ensures)) ∙ ap spanSays (c .before .at .given .1))
 
 returns : tie.Need-returns
 returns c =

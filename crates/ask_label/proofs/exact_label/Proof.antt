@@ -5,7 +5,7 @@ use Prim.Native.Nat.{ℕ}
 use Rattle.columns.specs.Columns.{accepts}
 use Rattle.rules.specs.Types.{spanSays}
 use Rattle.ask_label.specs.Labelled.{edgeAsked}
-use Rattle.ask_label.proofs.Labels.{edge-in, exact-is, exact-refused}
+use Rattle.ask_label.proofs.Labels.{edge-coded, exact-is, exact-refused}
 use borrow.Author.Needs.{needs}
 use Rattle.ask_label.proofs.exact_label.Statement.{statement}
 use Rattle.ask_label.proofs.exact_label.Tie as tie
@@ -13,7 +13,7 @@ use Rattle.ask_label.proofs.exact_label.Tie as tie
 exact-requires : tie.Need-exact-requires
 exact-requires c κs =
     let a = c .before .before .before .before .before .before .before .before .before .before .before .before .before .before .args in
-    edge-in _ _ _ _ _ (sym (c .before .before .before .with-edge .ensures ∙ ap (λ (s : List ℕ). edgeAsked s (a .edge)) (c .before .before .before .before .span .ensures)) ∙ ap spanSays (c .before .at .given .1))
+    edge-coded _ _ _ _ _ (sym (c .before .before .before .with-edge .ensures ∙ ap (λ (s : List ℕ). edgeAsked s (a .edge)) (c .before .before .before .before .span .ensures)) ∙ ap spanSays (c .before .at .given .1))
 
 returns : tie.Need-returns
 returns c =
