@@ -30,7 +30,7 @@ use Rattle.labels.proofs.Escapes.{escapes-places, escapes-append, escapes-few, 
 use Rattle.labels.proofs.Codes.{laid-within, all-length}
 use Rattle.labels.proofs.Ranking.{tab-take}
 use Rattle.need_escapes.specs.Uncoded.{Labelled, capped, isMore, usedMore, layers}
-use Rattle.need_escapes.proofs.Distinct.{occurs, occurs-count, places-count, places-beyond, places-length, places-few}
+use Rattle.need_roots.proofs.Distinct.{occurs, occurs-count, places-count, places-beyond, places-length, places-few}
 use Rattle.need_escapes.proofs.Layers.{moreThan, falling, sum-behind, sort-falls, few-more, count-swap}
 use Rattle.need_escapes.proofs.Capped.{capped-count, capped-length}
 

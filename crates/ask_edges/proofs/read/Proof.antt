@@ -188,5 +188,5 @@ read-spec 𝓤 H 𝓜 𝓖 𝓡 =
     entered 𝓤 H (tripleOf 𝓤 H (𝓖 .A) read.signature (read.spec 𝓤 H (𝓖 .A) (𝓜 .mem) (𝓡 .run)))
     (tables 𝓤 H 𝓜 𝓡 code.env .C) (tables 𝓤 H 𝓜 𝓡 code.env .Λ) #reader·read code.function (code.unfolded 𝓤 H 𝓜 𝓡)
     (read-meets 𝓤 H (𝓖 .A) (givenOf 𝓤 H 𝓜 𝓖) (𝓜 .mem) (𝓡 .run) (tablesOf 𝓤 H 𝓜 (tables 𝓤 H 𝓜 𝓡 code.env))
-    (cited 𝓤 H (New 𝓤 H (𝓖 .A) (𝓜 .mem) (𝓡 .run)) 𝓜 𝓡 code.env #reader·new new-def.routine code.calls-reader·new (new-thm.met 𝓤 H 𝓜 𝓖 𝓡))
-    (cited 𝓤 H (Next 𝓤 H (𝓖 .A) (𝓜 .mem) (𝓡 .run)) 𝓜 𝓡 code.env #reader·next next-def.routine code.calls-reader·next (next-thm.met 𝓤 H 𝓜 𝓖 𝓡)))
+    (cited 𝓤 H (New 𝓤 H (𝓖 .A) (𝓜 .mem) (𝓡 .run)) 𝓜 𝓡 code.env #reader·new new-def.routine code.calls-ask-edges·new (new-thm.met 𝓤 H 𝓜 𝓖 𝓡))
+    (cited 𝓤 H (Next 𝓤 H (𝓖 .A) (𝓜 .mem) (𝓡 .run)) 𝓜 𝓡 code.env #reader·next next-def.routine code.calls-ask-edges·next (next-thm.met 𝓤 H 𝓜 𝓖 𝓡)))
