@@ -14,7 +14,7 @@ use Rattle.rules.specs.Input.{Input, Copied, Raw, Route.copied, Route.raw, obje
 use Rattle.rules.specs.Verdict.{firstOf, at, once, badLengths, schemaLengths, badLimit, overLimit, badObject, badDumped, badClass, badCopied, badCode, badEscape, falls, badSpan, badPart, badRoot}
 use Rattle.rules.specs.Places.{placeCount}
 use Rattle.rules.proofs.Acceptance.{Refuse, refuse-append, refuse-at, at-empty, once-empty}
-use Rattle.check_tables.specs.Spans.{partOf, slotsOf}
+use Rattle.check_ids.specs.Spans.{partOf, slotsOf}
 use Rattle.check_tables.proofs.Laws.{steps-rise}
 use Rattle.check_places.specs.Placing.{Ranges, ClassTables, PartTables, CodeTables, Stands, rawPlaces, copiedPlaces}
 use Rattle.check_places.proofs.Routes.{raw-placed, copied-placed}
