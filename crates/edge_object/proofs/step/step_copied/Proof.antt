@@ -7,6 +7,12 @@ use borrow.Author.Needs.{needs}
 use Rattle.edge_object.proofs.step.step_copied.Statement.{statement}
 use Rattle.edge_object.proofs.step.step_copied.Tie as tie
 
+-- the way back from the call to the start
+abbrev start : tie.After-object-copied → tie.Start
+start c =
+    c .before .before .before .before .before .before .before .before .before .before .before .before .before .before .before .before .before .before .before .before
+    .before .before .before .before .before .before .before .before .before .before .before .before .before .before .before .before .before .before .before
+
 slice-read-mark : tie.Need-slice-read-mark
 slice-read-mark c = omega (arith, c .before .before .before .before .before .before .before .before .before .before .before .before .before .before .before .before .before .before .before .before .before .before .before .before .before .before .pre .1 .1 .0 .4)
 
@@ -66,16 +72,12 @@ object-copied-requires c κs =
 
 slice-write-working : tie.Need-slice-write-working
 slice-write-working c =
-    let s = c .before .before .before .before .before .before .before .before .before .before .before .before .before .before .before .before .before .before .before .before
-    .before .before .before .before .before .before .before .before .before .before .before .before .before .before .before .before .before .before .before .before .before .before
-    .before .before .before .before .before in
+    let s = start (c .before .before .before .before .before .before .before .before) in
     omega (arith, s .pre .1 .1 .0 .4)
 
 same-length : tie.Need-same-length
 same-length c =
-    let s = c .before .before .before .before .before .before .before .before .before .before .before .before .before .before .before .before .before .before .before .before
-    .before .before .before .before .before .before .before .before .before .before .before .before .before .before .before .before .before .before .before .before .before .before
-    .before .before .before .before .before in
+    let s = start (c .before .before .before .before .before .before .before .before) in
     length-set (s .args .working .now) _ _
 
 same-length-2 : tie.Need-same-length-2
@@ -100,16 +102,12 @@ returns c =
 
 add-working : tie.Need-add-working
 add-working c =
-    let s = c .before .before .before .before .before .before .before .before .before .before .before .before .before .before .before .before .before .before .before .before
-    .before .before .before .before .before .before .before .before .before .before .before .before .before .before .before .before .before .before .before .before .before .before
-    .before .before .before .before .before in
+    let s = start (c .before .before .before .before .before .before .before .before) in
     omega (arith, s .pre .1 .0)
 
 mul-working : tie.Need-mul-working
 mul-working c =
-    let s = c .before .before .before .before .before .before .before .before .before .before .before .before .before .before .before .before .before .before .before .before
-    .before .before .before .before .before .before .before .before .before .before .before .before .before .before .before .before .before .before .before .before .before .before
-    .before .before .before .before .before in
+    let s = start (c .before .before .before .before .before .before .before .before) in
     omega (arith, s .pre .1 .0)
 
 pub step-copied-spec : {M : Type 1} → statement M

@@ -7,6 +7,12 @@ use borrow.Author.Needs.{needs}
 use Rattle.edge_object.proofs.step.step_raw.Statement.{statement}
 use Rattle.edge_object.proofs.step.step_raw.Tie as tie
 
+-- the way back from the call to the start
+abbrev start : tie.After-object-raw → tie.Start
+start c =
+    c .before .before .before .before .before .before .before .before .before .before .before .before .before .before .before .before .before .before .before .before
+    .before .before .before .before .before .before .before .before .before .before .before .before .before .before .before .before .before .before .before .before
+
 slice-read-mark : tie.Need-slice-read-mark
 slice-read-mark c = omega (arith, c .before .before .before .before .before .before .before .before .before .before .before .before .before .before .before .before .before .before .before .before .before .before .before .before .before .before .pre .1 .0 .5)
 
@@ -77,30 +83,22 @@ object-raw-requires c κs =
 
 add-working : tie.Need-add-working
 add-working c =
-    let s = c .before .before .before .before .before .before .before .before .before .before .before .before .before .before .before .before .before .before .before .before
-    .before .before .before .before .before .before .before .before .before .before .before .before .before .before .before .before .before .before .before .before .before .before
-    .before .before .before .before .before .before in
+    let s = start (c .before .before .before .before .before .before .before .before) in
     omega (arith, s .pre .0)
 
 mul-working : tie.Need-mul-working
 mul-working c =
-    let s = c .before .before .before .before .before .before .before .before .before .before .before .before .before .before .before .before .before .before .before .before
-    .before .before .before .before .before .before .before .before .before .before .before .before .before .before .before .before .before .before .before .before .before .before
-    .before .before .before .before .before .before in
+    let s = start (c .before .before .before .before .before .before .before .before) in
     omega (arith, s .pre .0)
 
 slice-write-working : tie.Need-slice-write-working
 slice-write-working c =
-    let s = c .before .before .before .before .before .before .before .before .before .before .before .before .before .before .before .before .before .before .before .before
-    .before .before .before .before .before .before .before .before .before .before .before .before .before .before .before .before .before .before .before .before .before .before
-    .before .before .before .before .before .before in
+    let s = start (c .before .before .before .before .before .before .before .before) in
     omega (arith, s .pre .1 .0 .5)
 
 same-length : tie.Need-same-length
 same-length c =
-    let s = c .before .before .before .before .before .before .before .before .before .before .before .before .before .before .before .before .before .before .before .before
-    .before .before .before .before .before .before .before .before .before .before .before .before .before .before .before .before .before .before .before .before .before .before
-    .before .before .before .before .before .before in
+    let s = start (c .before .before .before .before .before .before .before .before) in
     length-set (s .args .working .now) _ _
 
 same-length-2 : tie.Need-same-length-2
