@@ -18,11 +18,11 @@ use Rattle.rules.specs.Input.{Input, objectCount}
 use Rattle.rules.specs.Edges.{Parts, graph, offset, weakPairs}
 use Rattle.rules.specs.Places.{placeCount}
 use Rattle.rules.specs.Account.{account, noAccount}
-use Rattle.rules.specs.Needs.{Rooms, Lent, buffer, needWeak, needRoots, needOffsets, needBases, shortLater, shortOfBuild, shortOfParts}
-use Rattle.rules.specs.Verdict.{firstOf, at, faults, checkSays, counts, buildSays}
+use Rattle.rules.specs.Needs.{Rooms, Lent, buffer, needWeak, needRoots, needOffsets, needBases, shortLater, shortOfBuild, shortOfParts, Fits}
+use Rattle.rules.specs.Verdict.{firstOf, at, faults, checkSays, counts, buildSays, plainCounts}
 use Rattle.rules.specs.Built.{CodedLeft, codedLeft, BuildLeft, buildLeft}
 use Rattle.rules.proofs.Acceptance.{Refuse, refuse-append, refuse-at, at-empty, Passed, passed, faults-refuse, build-says}
-use Rattle.build_rooms.specs.Stages.{Early, earlyOf, shortEarly, roomSays, plain, edgesSays, edgeSays, Fits, kept, Settled, leftOf, roomsOf, Laid}
+use Rattle.build_rooms.specs.Stages.{Early, earlyOf, shortEarly, roomSays, edgesSays, edgeSays, kept, Settled, leftOf, roomsOf, Laid}
 use Rattle.build_rooms.proofs.Fitting.{same-short}
 
 -- The first fault refuses.
@@ -74,7 +74,7 @@ module _ (x : Input) (e : Early) {c v r : List ℕ} (p w n : ℕ) (checked : c �
         let a : List ℕ = 0 ∷ 0 ∷ w ∷ needRoots x ∷ 0 ∷ 0 ∷ 0 ∷ 0 ∷ [] in
         let same = same-short (placeCount x) (needWeak x) p w (needRoots x) (needOffsets (graph x)) e (placed ok) (weak ok) in
         let is : v ≡ firstOf (at 9 es) a = rooms ∙ rw (said, roots ok, ← offsets-are x, ← same) (room-open p w (needRoots x) (needOffsets (graph x)) e) in
-        edges ∙ rw (is, none) (last-room es a (plain (graph x)) (accepting _))
+        edges ∙ rw (is, none) (last-room es a (plainCounts (graph x)) (accepting _))
 
     fails : (f : List ℕ) (fs : List (List ℕ)) → faults x ≡ f ∷ fs → r ≡ edgeSays x e
     unfolding edgeSays
@@ -98,12 +98,12 @@ module _ (x : Input) (e : Early) (ok : accepts (edgeSays x e) ≡ true) where
 
   none-met : faults x ++ at 9 short ≡ []
   unfolding edgeSays
-  none-met = refuse-append (faults-refuse x) (refuse-at 9 refl short) .none-met (plain (graph x)) ok
+  none-met = refuse-append (faults-refuse x) (refuse-at 9 refl short) .none-met (plainCounts (graph x)) ok
 
   pub edge-passed : Passed x
   edge-passed = passed x (append-empty (faults x) (at 9 short) none-met .0)
 
-  pub edge-accepts : edgeSays x e ≡ plain (graph x)
+  pub edge-accepts : edgeSays x e ≡ plainCounts (graph x)
   unfolding edgeSays
   edge-accepts = rw none-met
 
@@ -147,7 +147,7 @@ build-accepts : (x : Input) (r : Rooms) → accepts (edgeSays x (earlyOf r)) ≡
 unfolding edgeSays
 build-accepts x r h =
     let es = earlyFor x r in
-    let none = append-empty (faults x) (at 9 es) (refuse-append (faults-refuse x) (refuse-at 9 refl es) .none-met (plain (graph x)) h) in
+    let none = append-empty (faults x) (at 9 es) (refuse-append (faults-refuse x) (refuse-at 9 refl es) .none-met (plainCounts (graph x)) h) in
     (none .0, at-empty 9 es (none .1))
 
 build-rest : (x : Input) (r : Rooms) → (faults x ≡ []) × (earlyFor x r ≡ [])
@@ -157,7 +157,7 @@ build-rest x r none = rw (none .0, short-cut x r, none .1, blocks-lent x r (none
 
 build-handed : (x : Input) (r : Rooms) → accepts (edgeSays x (earlyOf r)) ≡ false → buildSays x r ≡ edgeSays x (earlyOf r)
 unfolding buildSays edgeSays
-build-handed x r refused = rw (short-cut x r) (first-cut (faults x) (earlyFor x r) (shortLater (x .schema) (graph x) (r .coded)) (plain (graph x)) (counts (x .schema) (graph x)) (accepting _) refused)
+build-handed x r refused = rw (short-cut x r) (first-cut (faults x) (earlyFor x r) (shortLater (x .schema) (graph x) (r .coded)) (plainCounts (graph x)) (counts (x .schema) (graph x)) (accepting _) refused)
 
 -- the answer of the whole, from that of the first half
 pub build-said : (x : Input) (r : Rooms) {before says : List ℕ} → before ≡ edgeSays x (earlyOf r)

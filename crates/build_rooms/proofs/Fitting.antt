@@ -6,7 +6,8 @@ use mathlib.Core.Logic.{inl, inr}
 use mathlib.Core.List.{List}
 use lib.Dec.{ltb}
 use borrow.Author.Tests.{le-ltb}
-use Rattle.build_rooms.specs.Stages.{Early, shortEarly, Fits}
+use Rattle.rules.specs.Needs.{Fits}
+use Rattle.build_rooms.specs.Stages.{Early, shortEarly}
 
 -- a column of at least that room is short for both or for neither
 pub fits-short : (room need n t : ℕ) → Fits room need n → room ≤ t → ltb t n ≡ ltb t need

@@ -1,21 +1,21 @@
 -- What the narrow stages of a build answer and leave: ROOM of the first four buffers, and the end. Assumes nothing.
-use Prim.Native.Nat.{ℕ, _+_, _≤_}
+use Prim.Native.Nat.{ℕ, _+_}
 use mathlib.Core.Path.{_≡_}
 use mathlib.Core.Bool.{true, cond}
-use mathlib.Core.Logic.{_⊎_}
 use mathlib.Core.List.{List, [], _∷_, _++_}
 use lib.Dec.{ltb}
-use lib.ListN.{length, getD, take}
+use lib.ListN.{length, getD}
 use Rattle.columns.specs.Lists.{_!_}
-use Rattle.columns.specs.Columns.{over, cleared, accepts}
+use Rattle.columns.specs.Columns.{over, cleared, accepts, Begins}
 use Rattle.store.specs.Blocked.{blocksOf}
 use Rattle.rules.specs.Input.{Input}
 use Rattle.rules.specs.Edges.{Parts, graph}
 use Rattle.rules.specs.Places.{placeCount}
 use Rattle.rules.specs.Account.{account, noAccount}
 use Rattle.rules.specs.Needs.{Lent, Rooms, buffer, needWeak, needRoots, needOffsets}
-use Rattle.rules.specs.Verdict.{firstOf, at, faults}
+use Rattle.rules.specs.Verdict.{firstOf, at, faults, plainCounts}
 use Rattle.rules.specs.Built.{CodedLeft, BuildLeft}
+unfoldable pub use Rattle.rules.specs.Needs.{Fits}
 
 -- the lengths of the columns of buffers 1 to 4
 pub record Early : Type 0 where
@@ -45,27 +45,20 @@ shortEarly places weak roots offsets e =
 unfoldable pub firstShort : ℕ → ℕ → ℕ → ℕ → Early → ℕ
 firstShort places weak roots offsets e = getD (shortEarly places weak roots offsets e) 0 0
 
--- A number in the place of a need, where only so much room matters: it is the need, or both fit.
-unfoldable pub Fits : ℕ → ℕ → ℕ → Type 0
-Fits room need n = (n ≡ need) ⊎ ((need ≤ room) × (n ≤ room))
-
 -- The answer before the edges, from that of the checks; acceptance has the weak pairs and the roots.
 unfoldable pub roomSays : List ℕ → ℕ → ℕ → ℕ → Early → List ℕ
 roomSays checked weak roots offsets e =
     cond (accepts checked) (firstOf (at 9 (shortEarly (checked ! 1) weak roots offsets e)) (0 ∷ 0 ∷ weak ∷ roots ∷ 0 ∷ 0 ∷ 0 ∷ 0 ∷ [])) checked
 
 -- The edges laid, nothing coded yet: the numbers of plain columns, unless the answer before refuses.
-abbrev pub plain : Parts → List ℕ
-plain p = 0 ∷ length (p .targets) ∷ length (p .weakFrom) ∷ length (p .roots) ∷ 0 ∷ 0 ∷ 0 ∷ p .dangling ∷ []
-
 unfoldable pub edgesSays : List ℕ → Parts → List ℕ
-edgesSays before p = cond (accepts before) (plain p) before
+edgesSays before p = cond (accepts before) (plainCounts p) before
 
 -- What the first half of a build answers: refusals 1 to 8, then ROOM 1 to 4.
 unfoldable pub edgeSays : Input → Early → List ℕ
 edgeSays x e =
     let p = graph x in
-    firstOf (faults x ++ at 9 (shortEarly (placeCount x) (needWeak x) (needRoots x) (needOffsets p) e)) (plain p)
+    firstOf (faults x ++ at 9 (shortEarly (placeCount x) (needWeak x) (needRoots x) (needOffsets p) e)) (plainCounts p)
 
 -- how much of a column an answer keeps, by the place of its length among the values
 unfoldable pub kept : ℕ → List ℕ → ℕ
@@ -98,10 +91,6 @@ leftOf says ts ls fs ws rs wk coded a = record {
 -- the rooms that columns of these lengths are
 abbrev pub roomsOf : ℕ → ℕ → ℕ → ℕ → ℕ → ℕ → Lent → Rooms
 roomsOf ts ls fs ws rs wk l = record { targets = ts; labels = ls; weakFrom = fs; weakTo = ws; roots = rs; working = wk; coded = l }
-
--- a column that begins with xs
-abbrev pub Begins : List ℕ → List ℕ → Type 0
-Begins xs d = take (length xs) d ≡ xs
 
 -- What the first half leaves where it accepts: the plain columns of the graph, over the fronts of the columns lent, and the account. The work columns
 -- begin with the labels and the offsets.

@@ -1,36 +1,14 @@
 -- What coding answers and leaves in the eleven columns that it is lent, over the schema and the plain columns that it is handed. Assumes nothing.
 use Prim.Native.Nat.{ℕ}
 use mathlib.Core.Path.{_≡_}
-use mathlib.Core.List.{List, [], _∷_}
-use lib.ListN.{length}
+use mathlib.Core.List.{List}
 use Rattle.rules.specs.Input.{Schema, classCount}
 use Rattle.rules.specs.Edges.{Parts}
 use Rattle.rules.specs.Needs.{Lent, shortOfParts}
-use Rattle.rules.specs.Verdict.{firstOf, at, counts}
+use Rattle.rules.specs.Verdict.{firstOf, at, counts, plainCounts}
 use Rattle.rules.specs.Built.{CodedLeft, codedLeft}
 use Rattle.labels.specs.Fields.{Naming, naming}
 use Rattle.code_stages.specs.Stages.{handOn, Where}
-pub use Rattle.code_stages.specs.Settling.{leftOf}
-
--- the lengths lent, in the order of the arguments
-abbrev pub lentOf : ℕ → ℕ → ℕ → ℕ → ℕ → ℕ → ℕ → ℕ → ℕ → ℕ → ℕ → Lent
-lentOf b s a v f t ea el c u k = record {
-  bases = b;
-  short = s;
-  longAt = a;
-  longValue = v;
-  fields = f;
-  table = t;
-  escapeAt = ea;
-  escapeLabel = el;
-  codes = c;
-  counting = u;
-  ranking = k;
-}
-
--- an answer that accepts with nothing coded yet
-abbrev pub plainCounts : Parts → List ℕ
-plainCounts p = 0 ∷ length (p .targets) ∷ length (p .weakFrom) ∷ length (p .roots) ∷ 0 ∷ 0 ∷ 0 ∷ p .dangling ∷ []
 
 abbrev pub namingOf : Schema → Naming
 namingOf s =

@@ -9,7 +9,7 @@ use lib.ListN.{length, set, getD, take, drop}
 use borrow.Author.Tests.{lt-ltb, le-ltb, ltb-false}
 use lib.Seq.{take-at}
 use Rattle.columns.specs.Lists.{_!_, anyOf}
-use Rattle.columns.specs.Columns.{accepts, over, leaves}
+use Rattle.columns.specs.Columns.{accepts, over, leaves, Begins}
 use Rattle.columns.proofs.Parts.{never-falls}
 use Rattle.columns.proofs.Tests.{no-places, none-of}
 use Rattle.store.specs.declared.CodedOffsets.{CodedOffsets}
@@ -24,7 +24,7 @@ use Rattle.labels.specs.Coding.{LaidOut, escapesIn, escapedTo, Escapes}
 use Rattle.labels.proofs.Codes.{escaped-in, codes-laid}
 use Rattle.labels.proofs.Escapes.{escapes-places}
 use Rattle.code_stages.specs.Stages.{handOn, unlessShort, labelRoom, spaceShort, OffsetsReady, offsetsSays, OffsetsCoded, fieldsSays, spaceSays, codesSays}
-use Rattle.code_stages.specs.Stages.{codesAll, CodesCoded, Begins, FieldsWritten, escapesOf}
+use Rattle.code_stages.specs.Stages.{codesAll, CodesCoded, FieldsWritten, escapesOf}
 use Rattle.rules.specs.Labels.{codeTable, coded}
 use Rattle.labels.specs.Fields.{Chosen}
 use Rattle.code_stages.specs.Settling.{usedTo}

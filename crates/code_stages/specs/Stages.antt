@@ -4,9 +4,9 @@ use mathlib.Core.Path.{_≡_}
 use mathlib.Core.Bool.{Bool, true, cond}
 use mathlib.Core.List.{List, [], _∷_}
 use lib.Dec.{ltb}
-use lib.ListN.{length, set, take}
+use lib.ListN.{length, set}
 use Rattle.columns.specs.Lists.{anyOf}
-use Rattle.columns.specs.Columns.{accepts}
+use Rattle.columns.specs.Columns.{accepts, Begins}
 use Rattle.columns.specs.Ranks.{Climbs}
 use Rattle.store.specs.Blocked.{blocksOf, longRows, Filled}
 use Rattle.rules.specs.Labels.{fieldsOf, codeTable, coded}
@@ -21,10 +21,6 @@ handOn before rest = cond (accepts before) rest before
 -- "9 ROOM: a buffer is smaller than its need": one of its columns is; else the rest
 abbrev pub unlessShort : ℕ → List Bool → List ℕ → List ℕ
 unlessShort k short rest = cond (anyOf short) (9 ∷ k ∷ []) rest
-
--- the column d begins with xs
-abbrev pub Begins : List ℕ → List ℕ → Type 0
-Begins xs d = take (length xs) d ≡ xs
 
 -- the fields that have codes, by the columns that name them
 abbrev pub fieldsBy : Naming → ℕ → ℕ → List ℕ → List ℕ

@@ -12,14 +12,14 @@ use Rattle.rules.proofs.Types.{refusal-refuses}
 use Rattle.rules.specs.Input.{Schema, classCount}
 use Rattle.rules.specs.Edges.{Parts}
 use Rattle.rules.specs.Needs.{Lent, shortOfParts}
-use Rattle.rules.specs.Verdict.{firstOf, at, counts}
+use Rattle.rules.specs.Verdict.{firstOf, at, counts, plainCounts}
 use Rattle.rules.specs.Parts.{partsFaults, handedFaults, handedSays, partsSays}
 use Rattle.rules.specs.Built.{CodedLeft, codedLeft, partsLeft}
 use Rattle.rules.proofs.First.{first-append}
 use Rattle.rules.proofs.Handed.{handed-passed, handed-refuse}
 use Rattle.check_parts.specs.Checks.{handed}
 use Rattle.code_columns.specs.Stages.{handOn, Where, Ready}
-use Rattle.code_columns.specs.Finished.{namingOf, plainCounts, Finished, Coding}
+use Rattle.code_columns.specs.Finished.{namingOf, Finished, Coding}
 use Rattle.code_stages.proofs.Laws.{on-true, on-false}
 use Rattle.code_columns.proofs.Readying.{ready-parts}
 use Rattle.from_parts.specs.Parts.{partsOf, leftAs, countedSays}
