@@ -11,8 +11,8 @@ const PUBLISHED: [&str; 13] = [
 const STAND_INS: [&str; 7] =
     ["hash.rs", "fmt.rs", "strings.rs", "analysis/mod.rs", "hprof/reader.rs", "hprof/archive.rs", "hprof/gunzip.rs"];
 const MODULES: [&str; 16] = [
-    "error", "fmt", "hash", "hprof", "store", "parallel", "sizes", "dump", "source", "strings", "detail", "analysis", "index", "graph", "dom",
-    "pattern",
+    "error", "fmt", "hash", "hprof", "store", "parallel", "sizes", "dump", "source", "strings", "detail", "analysis", "index", "graph",
+    "dom", "pattern",
 ];
 
 fn main() {

@@ -5,7 +5,7 @@ fn show(route: &str, input: &Input<'_>) -> Result<(), Refusal> {
     let graph = Graph::build(input)?;
     println!("{route}: offsets {:?}, targets {:?}", graph.offsets().collect::<Vec<_>>(), graph.all_targets());
     println!("  codes {:x?}, weak pairs {:?}, dangling {}", graph.columns().codes, graph.weak_edges().collect::<Vec<_>>(), graph.dangling);
-    println!("  roots {:?}, account {:?}", graph.roots, graph.account);
+    println!("  roots {:?}, account\n{}", graph.roots, graph.account);
     println!("  field(2, ARRAY_ELEMENT) = {:?}", graph.field(2, ARRAY_ELEMENT)?);
     println!("  field(2, ARRAY_ELEMENT + 1) = {:?}", graph.field(2, ARRAY_ELEMENT + 1)?);
     println!("  field(3, LOADER) = {:?}, referent(1, 1) = {:?}", graph.field(3, LOADER)?, graph.referent(1, 1)?);
@@ -39,7 +39,8 @@ fn main() -> Result<(), Refusal> {
     let objects = Objects { ids: &[256, 264, 512, 4096], kinds: &[0, 0, 1, 3], classes: &[0, 1, 0, 0], lengths: &[0, 0, 3, 0] };
     let held: [u64; 5] = [264, 256, 0, 256, 9999];
     let bytes: Vec<u8> = held.iter().flat_map(|id| id.to_be_bytes()).collect();
-    let copied = References::Copied { codes: &[2, 1, 0, 1, u32::MAX], escape_places: &[4], escape_ids: &[9999], base: 256, starts: &[0, 1, 2, 5] };
+    let copied =
+        References::Copied { codes: &[2, 1, 0, 1, u32::MAX], escape_places: &[4], escape_ids: &[9999], base: 256, starts: &[0, 1, 2, 5] };
     let raw = References::Raw { bytes: &bytes, id_size: 8, starts: &[0, 8, 16, 40], lengths: &[8, 8, 24, 0] };
     let policy = ReferencePolicy { soft: false, weak: false };
     for (route, references) in [("copied", copied), ("raw", raw)] {

@@ -1,4 +1,5 @@
 //! What comes in: document 01's columns, as slices that are only read.
+use crate::answer::value;
 use crate::ffi;
 use crate::refusal::Refusal;
 
@@ -70,7 +71,7 @@ impl SlotColumns {
         let mut answer = [0; 4];
         let SlotColumns { offsets, labels, weak } = self;
         ffi::yokefathom_fill_columns(from.offsets, from.labels, from.weak, offsets, labels, weak, &mut answer);
-        crate::value(&answer).map(|rows| rows as usize)
+        value(&answer).map(|rows| rows as usize)
     }
 
     /// The columns as a schema takes them.

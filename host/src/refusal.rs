@@ -1,8 +1,9 @@
 //! Why a call refuses: document 01's twelve numbers.
 use std::fmt;
 
-/// A refusal with its place. [`number`](Refusal::number) and [`name`](Refusal::name) are document 01's; printed, it says so in words.
+/// A refusal with its place; later requests bring more of them. [`number`](Refusal::number) and [`name`](Refusal::name) are document 01's; printed, it says so in words.
 #[derive(Clone, Copy, Debug, PartialEq, Eq, Hash)]
+#[non_exhaustive]
 pub enum Refusal {
     /// Columns of one table differ in length.
     Lengths,
@@ -56,46 +57,37 @@ impl Refusal {
         })
     }
 
+    /// The number and the name in document 01's table, and the place.
+    fn row(self) -> (u8, &'static str, u64) {
+        match self {
+            Refusal::Lengths => (1, "LENGTHS", 0),
+            Refusal::Limit => (2, "LIMIT", 0),
+            Refusal::Object(at) => (3, "OBJECT", at),
+            Refusal::Class(at) => (4, "CLASS", at),
+            Refusal::Copied(at) => (5, "COPIED", at),
+            Refusal::Span(at) => (6, "SPAN", at),
+            Refusal::Root(at) => (7, "ROOT", at),
+            Refusal::Places => (8, "PLACES", 0),
+            Refusal::Room(at) => (9, "ROOM", at),
+            Refusal::Parts { position, .. } => (10, "PARTS", position),
+            Refusal::Index(at) => (11, "INDEX", at),
+            Refusal::Columns(at) => (12, "COLUMNS", at),
+        }
+    }
+
     /// The number in document 01's table.
     pub fn number(self) -> u8 {
-        match self {
-            Refusal::Lengths => 1,
-            Refusal::Limit => 2,
-            Refusal::Object(_) => 3,
-            Refusal::Class(_) => 4,
-            Refusal::Copied(_) => 5,
-            Refusal::Span(_) => 6,
-            Refusal::Root(_) => 7,
-            Refusal::Places => 8,
-            Refusal::Room(_) => 9,
-            Refusal::Parts { .. } => 10,
-            Refusal::Index(_) => 11,
-            Refusal::Columns(_) => 12,
-        }
+        self.row().0
     }
 
     /// The name in document 01's table.
     pub fn name(self) -> &'static str {
-        const NAMES: [&str; 12] = [
-            "LENGTHS", "LIMIT", "OBJECT", "CLASS", "COPIED", "SPAN", "ROOT", "PLACES", "ROOM", "PARTS", "INDEX", "COLUMNS",
-        ];
-        NAMES[usize::from(self.number()) - 1]
+        self.row().1
     }
 
     /// The place that is returned with the number; of PARTS, the position.
     pub fn place(self) -> u64 {
-        match self {
-            Refusal::Lengths | Refusal::Limit | Refusal::Places => 0,
-            Refusal::Parts { position, .. } => position,
-            Refusal::Object(at)
-            | Refusal::Class(at)
-            | Refusal::Copied(at)
-            | Refusal::Span(at)
-            | Refusal::Root(at)
-            | Refusal::Room(at)
-            | Refusal::Index(at)
-            | Refusal::Columns(at) => at,
-        }
+        self.row().2
     }
 }
 

@@ -1,4 +1,5 @@
-//! The columns that a build is lent: how long they must be, and their use afterwards.
+//! The columns that a build is lent: how long they must be, and the calls that fill them.
+use crate::ffi;
 use crate::input::{Input, Parts, References, Schema};
 
 /// The most places that a build accepts, and the most names: document 01's limits.
@@ -7,31 +8,49 @@ const NAMES: usize = 16_777_216;
 /// Fields that can have a code.
 const CODES: usize = 32_767;
 
-/// Everything that a call writes.
-#[derive(Default)]
+/// Everything that a build writes.
+#[derive(Debug, Default)]
 pub struct Room {
+    /// Every edge's target.
     pub targets: Vec<u32>,
+    /// Every edge's label, until it is coded.
     pub labels: Vec<u32>,
+    /// The objects of the weak pairs.
     pub weak_from: Vec<u32>,
+    /// Their targets.
     pub weak_to: Vec<u32>,
+    /// The roots, sorted.
     pub roots: Vec<u32>,
+    /// Work space: an offset for each object, and one more.
     pub working: Vec<u64>,
+    /// The coded columns.
     pub coded: CodedRoom,
 }
 
-/// The columns of buffers 4 to 9.
-#[derive(Default)]
+/// The columns of buffers 4 to 9, which [`Columns`](crate::Columns) explains, and their work space.
+#[derive(Debug, Default)]
 pub struct CodedRoom {
+    /// Every 256th offset.
     pub bases: Vec<u64>,
+    /// Every offset above its base.
     pub short: Vec<u16>,
+    /// The places of the long offsets.
     pub long_at: Vec<u32>,
+    /// The long offsets.
     pub long_value: Vec<u64>,
+    /// The label of each field code.
     pub fields: Vec<u32>,
+    /// The code of each name.
     pub table: Vec<u16>,
+    /// The edges whose labels have no code.
     pub escape_at: Vec<u64>,
+    /// Their labels.
     pub escape_label: Vec<u32>,
+    /// Every edge's label in two bytes.
     pub codes: Vec<u16>,
+    /// Work space: how often each field occurs.
     pub counting: Vec<u64>,
+    /// Work space: the fields by their use.
     pub ranking: Vec<u64>,
 }
 
@@ -59,9 +78,9 @@ fn most_weak(input: &Input<'_>) -> u64 {
         return 0;
     }
     let Schema { classes, slots, .. } = &input.schema;
-    let weak: Vec<u64> = (0..classes.ids.len())
-        .map(|class| slots.weak.get(range(classes.slot_starts, classes.slot_ends, class)).map_or(0, |flags| flags.iter().map(|&flag| u64::from(flag != 0)).sum()))
-        .collect();
+    let flags = |class: usize| slots.weak.get(range(classes.slot_starts, classes.slot_ends, class)).unwrap_or_default();
+    let flagged = |class: usize| flags(class).iter().filter(|&&flag| flag != 0).count() as u64;
+    let weak: Vec<u64> = (0..classes.ids.len()).map(flagged).collect();
     let of = |(&kind, &class): (&u8, &u32)| if kind == 0 { weak.get(class as usize).copied().unwrap_or(0) } else { 0 };
     input.objects.kinds.iter().zip(input.objects.classes).map(of).sum()
 }
@@ -92,11 +111,66 @@ impl Room {
             coded: CodedRoom::new(input.objects.ids.len() + 1, places, most, input.schema.names),
         }
     }
+
+    /// One build into these columns, whatever they hold: the numbers that it says, after how many they are.
+    pub fn build(&mut self, input: &Input<'_>, account: &mut [[u64; 3]; 4]) -> [u64; 9] {
+        let Input { objects, schema: Schema { classes, slots, statics, names }, references, roots, policy } = *input;
+        let Room { targets, labels, weak_from, weak_to, roots: roots_out, working, coded } = self;
+        let CodedRoom { bases, short, long_at, long_value, fields, table, escape_at, escape_label, codes: edge_codes, .. } = coded;
+        let (counting, ranking, mut answer) = (&mut coded.counting, &mut coded.ranking, [0; 9]);
+        // An argument line for each table.
+        match references {
+            #[rustfmt::skip]
+            References::Copied { codes, escape_places, escape_ids, base, starts } => ffi::yokefathom_build_copied(
+                objects.ids, objects.kinds, objects.classes, objects.lengths,
+                classes.ids, classes.loaders, classes.dumped, classes.kinds,
+                classes.slot_starts, classes.slot_ends, classes.static_starts, classes.static_ends,
+                slots.offsets, slots.labels, slots.weak, statics.names, statics.types, statics.values, names,
+                codes, escape_places, escape_ids, base, starts,
+                roots, policy.soft, policy.weak,
+                targets, labels, weak_from, weak_to, roots_out, working, account,
+                bases, short, long_at, long_value, fields, table, escape_at, escape_label, edge_codes, counting, ranking,
+                &mut answer,
+            ),
+            #[rustfmt::skip]
+            References::Raw { bytes, id_size, starts, lengths } => ffi::yokefathom_build_raw(
+                objects.ids, objects.kinds, objects.classes, objects.lengths,
+                classes.ids, classes.loaders, classes.dumped, classes.kinds,
+                classes.slot_starts, classes.slot_ends, classes.static_starts, classes.static_ends,
+                slots.offsets, slots.labels, slots.weak, statics.names, statics.types, statics.values, names,
+                bytes, id_size, starts, lengths,
+                roots, policy.soft, policy.weak,
+                targets, labels, weak_from, weak_to, roots_out, working, account,
+                bases, short, long_at, long_value, fields, table, escape_at, escape_label, edge_codes, counting, ranking,
+                &mut answer,
+            ),
+        }
+        answer
+    }
 }
 
 impl CodedRoom {
+    /// Room for the columns of a plain graph.
     pub fn for_parts(schema: &Schema<'_>, parts: &Parts<'_>) -> CodedRoom {
         CodedRoom::new(parts.offsets.len(), parts.labels.len(), u64::MAX, schema.names)
+    }
+
+    /// One `from_parts` into these columns, whatever they hold: the numbers that it says, after how many they are.
+    pub fn take_parts(&mut self, schema: &Schema<'_>, parts: &Parts<'_>) -> [u64; 9] {
+        let Schema { classes, slots, statics, names } = *schema;
+        let CodedRoom { bases, short, long_at, long_value, fields, table, escape_at, escape_label, codes, counting, ranking } = self;
+        let mut answer = [0; 9];
+        // An argument line for each table.
+        #[rustfmt::skip]
+        ffi::yokefathom_from_parts(
+            classes.ids, classes.loaders, classes.dumped, classes.kinds,
+            classes.slot_starts, classes.slot_ends, classes.static_starts, classes.static_ends,
+            slots.offsets, slots.labels, slots.weak, statics.names, statics.types, statics.values, names,
+            parts.offsets, parts.targets, parts.labels, parts.weak_from, parts.weak_to, parts.roots, parts.dangling,
+            bases, short, long_at, long_value, fields, table, escape_at, escape_label, codes, counting, ranking,
+            &mut answer,
+        );
+        answer
     }
 
     /// A block has long offsets only where 65,535 edges and more lie between its ends, and at most 255. Labels are escaped where the names are

@@ -3,26 +3,65 @@ use std::collections::BTreeMap;
 use std::fs;
 use std::path::Path;
 
+type Signatures = BTreeMap<String, String>;
+
 /// Each exported function with its parameters and its result, white space and a last comma aside.
-fn exported(text: &str, into: &mut BTreeMap<String, String>) {
+fn exported(text: &str) -> Signatures {
+    let mut signatures = Signatures::new();
     for part in text.split("pub extern \"C\" fn ").skip(1) {
         let (name, rest) = part.split_once('(').expect("parameters");
         let (parameters, rest) = rest.split_once(')').expect("the end of the parameters");
         let result = rest.lines().next().unwrap_or_default().trim();
+        let words = parameters.trim_end().trim_end_matches(',').split_whitespace().chain([result]);
+        // The macro of `src/ffi.rs` has a placeholder for a name.
         if name.chars().all(|c| c.is_alphanumeric() || c == '_') {
-            into.insert(name.to_string(), parameters.trim_end().trim_end_matches(',').split_whitespace().chain([result]).collect::<Vec<_>>().join(" "));
+            signatures.insert(name.to_string(), words.collect::<Vec<_>>().join(" "));
         }
     }
+    signatures
+}
+
+/// The functions that stand on one side alone, or differently.
+fn drifted(declared: &Signatures, proved: &Signatures) -> Vec<String> {
+    let names = declared.keys().chain(proved.keys().filter(|&name| !declared.contains_key(name)));
+    names.filter(|&name| declared.get(name) != proved.get(name)).cloned().collect()
+}
+
+fn read(path: &Path) -> Signatures {
+    exported(&fs::read_to_string(path).unwrap_or_else(|e| panic!("{}: {e}", path.display())))
 }
 
 #[test]
 fn declarations_are_the_signatures() {
     let host = Path::new(env!("CARGO_MANIFEST_DIR"));
-    let (mut declared, mut proved) = (BTreeMap::new(), BTreeMap::new());
-    exported(&fs::read_to_string(host.join("src/ffi.rs")).expect("ffi.rs"), &mut declared);
-    for file in fs::read_dir(host.join("../crates/yokefathom/src")).expect("the crate") {
-        exported(&fs::read_to_string(file.expect("a file").path()).expect("a text"), &mut proved);
+    let declared = read(&host.join("src/ffi.rs"));
+    let files = fs::read_dir(host.join("../crates/yokefathom/src")).expect("the crate");
+    let proved: Signatures = files.flat_map(|file| read(&file.expect("a file").path())).collect();
+    assert!(declared.len() >= 18, "only {} declarations were found", declared.len());
+    assert_eq!(drifted(&declared, &proved), [] as [&str; 0], "declared {declared:#?}, proved {proved:#?}");
+}
+
+#[test]
+fn a_drift_is_noticed() {
+    let kept = r#"pub extern "C" fn one(a: &[u32], b: &mut [u64; 4]) -> u64
+pub extern "C" fn two(
+    object: usize,
+)"#;
+    let drifts = |changed: &str| drifted(&exported(kept), &exported(changed));
+    assert_eq!(drifts("#[no_mangle]\npub extern \"C\" fn two(object: usize)\n{}\n").join(" "), "one", "a function is gone");
+    for (old, new) in [
+        ("fn one", "fn first"),
+        ("a: &[u32]", "a: &[u64]"),
+        ("a: &[u32]", "c: &[u32]"),
+        ("a: &[u32]", "a: &mut [u32]"),
+        ("u64; 4", "u64; 5"),
+        ("a: &[u32], b: &mut [u64; 4]", "b: &mut [u64; 4], a: &[u32]"),
+        ("4])", "4], c: u8)"),
+        (" -> u64", ""),
+        (" -> u64", " -> u32"),
+    ] {
+        assert!(drifts(&kept.replace(old, new)).contains(&"one".to_string()), "{old} as {new}");
     }
-    assert!(declared.len() > 10);
-    assert_eq!(declared, proved);
+    assert!(drifts(&kept.replace(", b", ",\n    b")).is_empty(), "only the layout differs");
+    assert_eq!(drifts(&format!("{kept}\npub extern \"C\" fn three()\n")), ["three"], "a function more");
 }

@@ -16,9 +16,9 @@ halves : (a b n : ℕ) → b < 4294967296 → n ≡ a * 4294967296 + b → (n / 
 halves a b n l e = (omega (arith, e), omega (arith, e))
 
 -- The span of an accepted answer, whose ends have room, comes back.
-pub span-back : (start end n : ℕ) → start < 4294967296 → end < 4294967295 → n + 1 ≡ spanNumber (0 ∷ start ∷ end ∷ []) → (n / 4294967296 ≡ start) × (n % 4294967296 ≡ end)
+pub span-number-back : (start end n : ℕ) → start < 4294967296 → end < 4294967295 → n + 1 ≡ spanNumber (0 ∷ start ∷ end ∷ []) → (n / 4294967296 ≡ start) × (n % 4294967296 ≡ end)
 unfolding spanNumber accepts allOf
-span-back start end n s l e =
+span-number-back start end n s l e =
     let is : n + 1 ≡ start * 4294967296 + end + 1 = e ∙ rw (lt-ltb start 4294967296 s, lt-ltb end 4294967295 l) in
     halves start end n (omega arith) (omega (arith, is))
 
@@ -32,8 +32,8 @@ unfolding replyOf accepts
 reply-nothing = refl
 
 -- A label, and what is expected behind it, come back.
-pub label-back : (m l n : ℕ) → l < 4294967296 → after m l < 4294967295 → n + 1 ≡ labelNext m (l ∷ []) → (n / 4294967296 ≡ after m l) × (n % 4294967296 ≡ l)
+pub label-number-back : (m l n : ℕ) → l < 4294967296 → after m l < 4294967295 → n + 1 ≡ labelNext m (l ∷ []) → (n / 4294967296 ≡ after m l) × (n % 4294967296 ≡ l)
 unfolding labelNext
-label-back m l n s a e =
+label-number-back m l n s a e =
     let is : n + 1 ≡ after m l * 4294967296 + l + 1 = e ∙ rw (lt-ltb (after m l) 4294967295 a) in
     halves (after m l) l n s (omega (arith, is))

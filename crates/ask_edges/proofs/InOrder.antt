@@ -17,15 +17,15 @@ use Rattle.rules.specs.Labels.{Coded, expectedAt, exactLabel}
 use Rattle.rules.specs.Questions.{Columns, labelReads, readsBack, objectsIn, offsetAt, edgesIn, edgeAt}
 use Rattle.labels.specs.Reading.{codeBack}
 use Rattle.labels.proofs.Back.{step-back}
-use Rattle.ask_graph.specs.Reading.{partOf}
-use Rattle.ask_graph.specs.Labelled.{spanIn}
-use Rattle.ask_graph.proofs.Spans.{span-inside, span-read, part-falls, part-past, part-is}
-use Rattle.ask_graph.proofs.Labels.{escapes-rise, escapes-even, label-reads}
+use Rattle.ask_span.specs.Reading.{spanPart}
+use Rattle.ask_span.specs.Graph.{spanIn}
+use Rattle.ask_span.proofs.Spans.{span-inside, span-read, part-falls, part-past, part-is}
+use Rattle.ask_span.proofs.Escapes.{escapes-rising, escapes-paired, edge-reads}
 use Rattle.ask_edges.specs.declared.Step.{Step}
 use Rattle.ask_edges.specs.declared.Step.the-variants as Step
 use Rattle.ask_edges.specs.declared.NextEdge.{NextEdge}
 use Rattle.ask_edges.specs.declared.NextEdge.the-variants as NextEdge
-use Rattle.ask_edges.specs.Read.{stepAt, withLabel, edgeBack, nextSays, orObject, nextOf}
+use Rattle.ask_edges.specs.Read.{stepAt, withLabel, edgeBack, nextSays, orObject, edgeNext}
 
 -- an edge that stands there, and its label
 pub edge-is : (f a l : List ℕ) {t c e n : ℕ} {s : Step} {says ls : List ℕ} → Step.Edge t c e n ≡ s → ls ≡ codeBack f a l e n c → says ≡ withLabel t n ls → says ≡ edgeBack s f a l
@@ -57,8 +57,8 @@ module _ (d : Coded) (ts : List ℕ) (a b k : ℕ) (within : b ≤ length ts) (c
   unfolding stepAt
   reads-end l = rw (part-length ts a b within, le-ltb k (b - a) l)
 
--- Which case of `nextOf` holds, of a span from a up to b.
-part-few : (xs : List ℕ) (a b : ℕ) → length (partOf (0 ∷ a ∷ b ∷ []) xs) ≤ b - a
+-- Which case of `edgeNext` holds, of a span from a up to b.
+part-few : (xs : List ℕ) (a b : ℕ) → length (spanPart (0 ∷ a ∷ b ∷ []) xs) ≤ b - a
 part-few xs a b =
     ⊎-elim
     (λ l. omega (arith, ap length (part-falls xs a b l)))
@@ -69,16 +69,16 @@ part-few xs a b =
     (lt-or-ge b a)
 
 module _ (a b : ℕ) (ts cs f ea el : List ℕ) (o k n : ℕ) where
-  pub next-none : b - a ≤ k → nextOf (0 ∷ a ∷ b ∷ []) ts cs f ea el o k n ≡ 0 ∷ []
-  unfolding nextOf accepts stepAt
-  next-none l = rw (le-ltb k (length (partOf (0 ∷ a ∷ b ∷ []) ts)) (omega (arith, part-few ts a b)))
+  pub next-none : b - a ≤ k → edgeNext (0 ∷ a ∷ b ∷ []) ts cs f ea el o k n ≡ 0 ∷ []
+  unfolding edgeNext accepts stepAt
+  next-none l = rw (le-ltb k (length (spanPart (0 ∷ a ∷ b ∷ []) ts)) (omega (arith, part-few ts a b)))
 
-  pub none-left : b ≤ a → nextOf (0 ∷ a ∷ b ∷ []) ts cs f ea el o k n ≡ 0 ∷ []
-  none-left l = next-none (omega arith)
+  pub no-edge-left : b ≤ a → edgeNext (0 ∷ a ∷ b ∷ []) ts cs f ea el o k n ≡ 0 ∷ []
+  no-edge-left l = next-none (omega arith)
 
-  pub next-is : {t c read says : List ℕ} → t ≡ partOf (0 ∷ a ∷ b ∷ []) ts → c ≡ partOf (0 ∷ a ∷ b ∷ []) cs → read ≡ edgeBack (stepAt t c k (a + k) n) f ea el
-      → says ≡ orObject o read → says ≡ nextOf (0 ∷ a ∷ b ∷ []) ts cs f ea el o k n
-  unfolding nextOf accepts
+  pub next-is : {t c read says : List ℕ} → t ≡ spanPart (0 ∷ a ∷ b ∷ []) ts → c ≡ spanPart (0 ∷ a ∷ b ∷ []) cs → read ≡ edgeBack (stepAt t c k (a + k) n) f ea el
+      → says ≡ orObject o read → says ≡ edgeNext (0 ∷ a ∷ b ∷ []) ts cs f ea el o k n
+  unfolding edgeNext accepts
   next-is p q r w = w ∙ ap (orObject o) (r ∙ ap₂ (λ (t c : List ℕ). edgeBack (stepAt t c k (a + k) n) f ea el) p q)
 
 -- Of an object that reads back the edges come in order, each with what is expected behind it, and then the end.
@@ -90,7 +90,7 @@ module _ (c : Columns) (o : ℕ) (m : o < objectsIn c) (h : readsBack c o ≡ tr
   z = offsetAt c (suc o)
 
   abbrev turn : List ℕ → ℕ → List ℕ
-  turn span k = nextOf span (c .targets) (c .labels .codes) (c .labels .fields) (c .labels .escapeAt) (c .labels .escapeLabel) o k (expectedAt (c .labels) e k)
+  turn span k = edgeNext span (c .targets) (c .labels .codes) (c .labels .fields) (c .labels .escapeAt) (c .labels .escapeLabel) o k (expectedAt (c .labels) e k)
 
   pub edge-in-order : (k : ℕ) → k < edgesIn c o → turn (spanIn c o) k ≡ 0 ∷ edgeAt c o k .target ∷ edgeAt c o k .label ∷ expectedAt (c .labels) e (suc k) ∷ []
   unfolding accepts
@@ -100,7 +100,7 @@ module _ (c : Columns) (o : ℕ) (m : o < objectsIn c) (h : readsBack c o ≡ tr
       ap (λ (s : List ℕ). turn s k) says
       ∙ sym (next-is e z (c .targets) (c .labels .codes) (c .labels .fields) (c .labels .escapeAt) (c .labels .escapeLabel) o k (expectedAt (c .labels) e k)
       (sym (part-is (c .targets) e z (i .ordered) (i .targeted))) (sym (part-is (c .labels .codes) e z (i .ordered) (i .coded))) refl refl)
-      ∙ ap (orObject o) (reads-edge (c .labels) (c .targets) e z k (i .targeted) (i .coded) (escapes-rise c o h) (escapes-even c o h) (label-reads c o h k l) l)
+      ∙ ap (orObject o) (reads-edge (c .labels) (c .targets) e z k (i .targeted) (i .coded) (escapes-rising c o h) (escapes-paired c o h) (edge-reads c o h k l) l)
 
   pub end-in-order : (k : ℕ) → edgesIn c o ≤ k → turn (spanIn c o) k ≡ 0 ∷ []
   end-in-order k l =

@@ -8,7 +8,7 @@ use Rattle.columns.specs.Lists.{_!_}
 use Rattle.columns.specs.Columns.{accepts}
 use Rattle.rules.specs.Labels.{after}
 use Rattle.labels.specs.Reading.{codeBack}
-use Rattle.ask_graph.specs.Reading.{partOf}
+use Rattle.ask_span.specs.Reading.{spanPart}
 use Rattle.ask_edges.specs.declared.Step.{Step}
 use Rattle.ask_edges.specs.declared.Step.the-variants as Step
 use Rattle.ask_edges.specs.declared.ReadEdge.{ReadEdge}
@@ -21,10 +21,10 @@ unfoldable pub stepAt : List ℕ → List ℕ → ℕ → ℕ → ℕ → Step
 stepAt ts cs at edge next = cond (ltb at (length ts)) (cond (ltb at (length cs)) (Step.Edge (ts ! at) (cs ! at) edge next) Step.End) Step.End
 
 -- An edge: 0, its target, its exact label, and what is expected behind it. The end: 0 alone. A label that cannot be read: 12, COLUMNS, for the caller's object.
-abbrev pub edgeSays : ReadEdge → List ℕ
-edgeSays (ReadEdge.Edge t l n) = 0 ∷ t ∷ l ∷ n ∷ []
-edgeSays ReadEdge.End = 0 ∷ []
-edgeSays ReadEdge.Bad = 12 ∷ []
+abbrev pub readEdgeSays : ReadEdge → List ℕ
+readEdgeSays (ReadEdge.Edge t l n) = 0 ∷ t ∷ l ∷ n ∷ []
+readEdgeSays ReadEdge.End = 0 ∷ []
+readEdgeSays ReadEdge.Bad = 12 ∷ []
 
 abbrev pub withLabel : ℕ → ℕ → List ℕ → List ℕ
 withLabel t n [] = 12 ∷ []
@@ -45,6 +45,6 @@ abbrev pub orObject : ℕ → List ℕ → List ℕ
 orObject o says = cond (accepts says) says (12 ∷ o ∷ [])
 
 -- Edge k of the object whose span is given, where n is expected; a refusal of the span is the answer.
-unfoldable pub nextOf : List ℕ → List ℕ → List ℕ → List ℕ → List ℕ → List ℕ → ℕ → ℕ → ℕ → List ℕ
-nextOf span targets codes fields escapeAt escapeLabel o k n =
-    cond (accepts span) (orObject o (edgeBack (stepAt (partOf span targets) (partOf span codes) k (span ! 1 + k) n) fields escapeAt escapeLabel)) span
+unfoldable pub edgeNext : List ℕ → List ℕ → List ℕ → List ℕ → List ℕ → List ℕ → ℕ → ℕ → ℕ → List ℕ
+edgeNext span targets codes fields escapeAt escapeLabel o k n =
+    cond (accepts span) (orObject o (edgeBack (stepAt (spanPart span targets) (spanPart span codes) k (span ! 1 + k) n) fields escapeAt escapeLabel)) span

@@ -3,7 +3,8 @@
 use labels::EdgeLabel;
 use rules::Span;
 ghost use mathlib.Core.Path.{_≡_};
-ghost use Rattle.ask_edges.specs.Read.{stepAt, edgeSays, withLabel, edgeBack, nextSays, orObject, nextOf};
+ghost use Rattle.columns.specs.Loans.{entry};
+ghost use Rattle.ask_edges.specs.Read.{stepAt, readEdgeSays, withLabel, edgeBack, nextSays, orObject, edgeNext};
 ghost use Rattle.rules.specs.Types.{spanSays};
 ghost use Rattle.labels.specs.Reading.{readSays};
 
@@ -58,7 +59,7 @@ pub fn step_at<'a, 'b>(
     edge: usize,
     expected: u32,
 ) -> Step
-    ensures { λ r. ⌜ r ≡ stepAt (now (targets .entry)) (now (codes .entry)) at edge expected ⌝ }
+    ensures { λ r. ⌜ r ≡ stepAt (entry targets) (entry codes) at edge expected ⌝ }
 {
     if targets.len() <= at {
         return Step::End;
@@ -106,7 +107,7 @@ pub fn read<'a, 'b>(
     edge: usize,
     expected: u32,
 ) -> Step
-    ensures { λ r. ⌜ r ≡ stepAt (now (targets .entry)) (now (codes .entry)) at edge expected ⌝ }
+    ensures { λ r. ⌜ r ≡ stepAt (entry targets) (entry codes) at edge expected ⌝ }
 {
     next(new(targets, codes, at, edge, expected))
 }
@@ -122,7 +123,7 @@ pub fn edge_at(
     escape_at: &[u64],
     escape_label: &[u32],
 ) -> ReadEdge
-    ensures { λ r. ⌜ edgeSays r ≡ edgeBack (stepAt (now (targets .entry)) (now (codes .entry)) at edge expected) (now (fields .entry)) (now («escape_at» .entry)) (now («escape_label» .entry)) ⌝ }
+    ensures { λ r. ⌜ readEdgeSays r ≡ edgeBack (stepAt (entry targets) (entry codes) at edge expected) (entry fields) (entry «escape_at») (entry «escape_label») ⌝ }
 {
     let stands = read(targets, codes, at, edge, expected);
     match stands {
@@ -147,7 +148,7 @@ pub fn edge_at(
 }
 
 fn labelled(target: u32, label: EdgeLabel, expected: u32) -> ReadEdge
-    ensures { λ r. ⌜ edgeSays r ≡ withLabel target expected (readSays label) ⌝ }
+    ensures { λ r. ⌜ readEdgeSays r ≡ withLabel target expected (readSays label) ⌝ }
 {
     match label {
         EdgeLabel::Is(l) => ReadEdge::Edge {
@@ -160,7 +161,7 @@ fn labelled(target: u32, label: EdgeLabel, expected: u32) -> ReadEdge
 }
 
 fn answer(edge: ReadEdge, object: usize) -> NextEdge
-    ensures { λ r. ⌜ nextSays r ≡ orObject object (edgeSays edge) ⌝ }
+    ensures { λ r. ⌜ nextSays r ≡ orObject object (readEdgeSays edge) ⌝ }
 {
     match edge {
         ReadEdge::Edge {
@@ -177,7 +178,7 @@ fn answer(edge: ReadEdge, object: usize) -> NextEdge
     }
 }
 
-// Edge k of an object, by the span that `ask_graph::span` gave, where the edges before it were read in order: `expected` is 0 for the first, and then what the edge
+// Edge k of an object, by the span that `ask_span::span` gave, where the edges before it were read in order: `expected` is 0 for the first, and then what the edge
 // before gave. Where the span is a refusal, that is the answer.
 pub fn edge_of<'a, 'b>(
     targets: &'a [u32],
@@ -190,7 +191,7 @@ pub fn edge_of<'a, 'b>(
     k: usize,
     expected: u32,
 ) -> NextEdge
-    ensures { λ r. ⌜ nextSays r ≡ nextOf (spanSays at) (now (targets .entry)) (now (codes .entry)) (now (fields .entry)) (now («escape_at» .entry)) (now («escape_label» .entry)) object k expected ⌝ }
+    ensures { λ r. ⌜ nextSays r ≡ edgeNext (spanSays at) (entry targets) (entry codes) (entry fields) (entry «escape_at») (entry «escape_label») object k expected ⌝ }
 {
     match at {
         Span::Edges { start, end } => {
@@ -200,8 +201,8 @@ pub fn edge_of<'a, 'b>(
             if end - start <= k {
                 return NextEdge::End;
             }
-            let own_targets = ask_graph::targets_of(targets, at);
-            let own_codes = ask_graph::codes_of(codes, at);
+            let own_targets = ask_span::targets_of(targets, at);
+            let own_codes = ask_span::codes_of(codes, at);
             let edge = edge_at(
                 own_targets,
                 own_codes,

@@ -1,6 +1,6 @@
 -- On the columns of an accepted build: an answer by the short columns that is no refusal is the same question on the object's edges. Assumes nothing.
 use Prim.Native.Nat.{ℕ, suc}
-use mathlib.Core.Path.{_≡_, sym, ap, _∙_}
+use mathlib.Core.Path.{_≡_, _∙_}
 use mathlib.Core.Bool.{true}
 use mathlib.Core.List.{List, [], _∷_}
 use lib.ListN.{length}
@@ -9,11 +9,14 @@ use Rattle.rules.specs.Input.{Input, objectCount}
 use Rattle.rules.specs.Edges.{edgesOf, weakTargets, offset, graph}
 use Rattle.rules.specs.Questions.{Columns, columnsOf, labelOf, plainly, labelIn, fieldIn, referentIn}
 use Rattle.rules.proofs.Acceptance.{Passed}
-use Rattle.ask_graph.specs.Reading.{spanOf}
-use Rattle.ask_graph.specs.Labelled.{spanIn, Labelled}
-use Rattle.ask_graph.specs.Sought.{fieldFound, referentFound}
-use Rattle.ask_graph.proofs.Labels.{toward-labelled}
-use Rattle.ask_graph.proofs.Built.{strong, span-built, label-built, field-built, referent-built}
+use Rattle.ask_span.specs.Reading.{spanOf}
+use Rattle.ask_span.specs.Graph.{spanIn}
+use Rattle.ask_label.specs.Labelled.{Labelled}
+use Rattle.ask_field.specs.Sought.{fieldFound, referentFound}
+use Rattle.ask_span.proofs.Built.{strong, span-built}
+use Rattle.ask_label.proofs.Labels.{toward-labelled}
+use Rattle.ask_label.proofs.Built.{label-built}
+use Rattle.ask_field.proofs.Built.{field-built, referent-built}
 use Rattle.ask_short.specs.Lean.{labelFound}
 use Rattle.ask_short.proofs.Whole.{shortly, leanly, span-whole, label-whole, field-whole, referent-whole}
 

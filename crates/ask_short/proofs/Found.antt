@@ -12,9 +12,10 @@ use Rattle.columns.specs.Ranks.{bisect}
 use Rattle.columns.proofs.Ranks.{bisect-ranked}
 use Rattle.rules.specs.Questions.{Columns}
 use Rattle.labels.specs.Reading.{exactBack}
-use Rattle.ask_graph.specs.Reading.{weakOf}
-use Rattle.ask_graph.specs.Sought.{firstWeak}
-use Rattle.ask_graph.specs.Labelled.{spanIn, goesTo, orColumns}
+use Rattle.ask_span.specs.Reading.{weakRowsOf}
+use Rattle.ask_span.specs.Graph.{spanIn}
+use Rattle.ask_label.specs.Labelled.{goesTo, orColumns}
+use Rattle.ask_field.specs.Sought.{firstWeak}
 use Rattle.ask_short.specs.Lean.{labelFound}
 
 module _ (c : Columns) (o t : ℕ) where
@@ -32,8 +33,8 @@ module _ (c : Columns) (o t : ℕ) where
   unfolding labelFound
   refused-found {says} e f = let z : accepts (spanIn c o) ≡ false = ap accepts (sym e) ∙ f in rw z e
 
-pub weak-absent : (short : ℕ) (from to : List ℕ) (o : ℕ) → o < short - 1 → length from ≤ length to → bisect from o ≡ bisect from (o + 1) → firstWeak (weakOf short from to o) to ≡ 0 ∷ []
-unfolding weakOf firstWeak accepts allOf
+pub weak-absent : (short : ℕ) (from to : List ℕ) (o : ℕ) → o < short - 1 → length from ≤ length to → bisect from o ≡ bisect from (o + 1) → firstWeak (weakRowsOf short from to o) to ≡ 0 ∷ []
+unfolding weakRowsOf firstWeak accepts allOf
 weak-absent short from to o h l e =
     let inside : bisect from o ≤ length to = omega (arith, bisect-ranked from o (bisect from o) refl .within) in
     rw (lt-ltb o (short - 1) h, ← e, le-leb (bisect from o) (bisect from o) (omega arith), le-leb (bisect from o) (length to) inside, le-ltb (bisect from o) (bisect from o) (omega arith))

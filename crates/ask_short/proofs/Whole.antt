@@ -1,5 +1,5 @@
 -- An answer by the short columns that is no refusal is the whole question's, on any columns. Assumes nothing.
-use Prim.Native.Nat.{ℕ, zero, suc, _+_, _-_, _/_, _≤_, _<_}
+use Prim.Native.Nat.{ℕ, zero, suc, _+_, _-_, _<_}
 use native.Mathlib.Omega.{arith}
 use mathlib.Core.Path.{_≡_, refl, sym, ap, _∙_}
 use mathlib.Core.Bool.{Bool, true, false, cond, false≢true}
@@ -17,12 +17,13 @@ use Rattle.rules.specs.Types.{ARRAY-ELEMENT, isElement}
 use Rattle.rules.specs.Labels.{Coded, isEscaped}
 use Rattle.rules.specs.Questions.{Columns}
 use Rattle.labels.specs.Reading.{rowBack, elementBack, fieldBack, codeBack, stepBack, nextOf, onward, nextBack, coarseBack, walkBack, exactBack}
-use Rattle.ask_graph.proofs.Placed.{decoded-bad, decoded-end}
-use Rattle.ask_graph.specs.Reading.{ended, spanOf, weakOf}
-use Rattle.ask_graph.specs.Labelled.{spanIn, goesTo, orColumns}
-use Rattle.ask_graph.specs.Sought.{stops, decoded, placed, elementAt, codeAt, codeIn, soughtIn, targetOf, fieldFound, firstWeak, orWeak, referentFound}
-use Rattle.ask_graph.specs.declared.field.Sought.{Sought}
-use Rattle.ask_graph.specs.declared.field.Sought.the-variants.{At, Nothing, Bad}
+use Rattle.ask_span.specs.Reading.{ended, spanOf, weakRowsOf}
+use Rattle.ask_span.specs.Graph.{spanIn}
+use Rattle.ask_label.specs.Labelled.{goesTo, orColumns}
+use Rattle.ask_field.specs.Sought.{stops, decoded, firstSought, elementAt, hasCode, codeFromTable, soughtIn, soughtTarget, fieldFound, firstWeak, orWeak, referentFound}
+use Rattle.ask_field.specs.declared.Sought.{Sought}
+use Rattle.ask_field.specs.declared.Sought.the-variants.{At, Nothing, Bad}
+use Rattle.ask_field.proofs.Placed.{decoded-bad, decoded-end}
 use Rattle.ask_short.specs.Lean.{shortOf, plainOf, plainBack, leanOf, labelFound}
 use Rattle.ask_short.proofs.Plain.{no-long, no-row, any-edge}
 
@@ -83,8 +84,8 @@ span-whole b codes targets o h = go (ltb o (length (b .short) - 1)) h
     go false q = refl
 
 -- the same labels without the escapes: what is read is the label
-abbrev pub plainly : Coded → Coded
-plainly d = plainOf (d .codes) (d .fields)
+abbrev pub plainCoded : Coded → Coded
+plainCoded d = plainOf (d .codes) (d .fields)
 
 nothing-read : {x : ℕ} {xs ls : List ℕ} → ls ≡ [] → ls ≡ x ∷ xs → ⊥
 nothing-read {x} {xs} {ls} e q = let z : 0 ≡ suc (length xs) = ap length (sym e ∙ q) in absurd (omega arith)
@@ -105,7 +106,7 @@ module _ (d : Coded) (e : ℕ) where
   pub edge-whole : (g n c : ℕ) {x : ℕ} {xs : List ℕ} → plainBack (d .fields) n c ≡ x ∷ xs → codeBack (d .fields) (d .escapeAt) (d .escapeLabel) g n c ≡ x ∷ xs
   edge-whole g n c {x} {xs} q = let z : codeBack (d .fields) [] [] g n c ≡ x ∷ xs = sym (any-edge (d .fields) g n c) ∙ q in sym (code-whole g n c z) ∙ z
 
-  pub coarse-whole : (k : ℕ) {x : ℕ} {xs : List ℕ} → coarseBack (plainly d) k ≡ x ∷ xs → coarseBack (plainly d) k ≡ coarseBack d k
+  pub coarse-whole : (k : ℕ) {x : ℕ} {xs : List ℕ} → coarseBack (plainCoded d) k ≡ x ∷ xs → coarseBack (plainCoded d) k ≡ coarseBack d k
   unfolding coarseBack
   coarse-whole k {x} {xs} q = go (leb 32768 (d .codes ! k)) q
     where
@@ -118,29 +119,29 @@ module _ (d : Coded) (e : ℕ) where
   next-step n [] ms h q = absurd (nothing-read refl q)
   next-step n (l ∷ ls) ms h q = ap (nextOf n) (h _ _ refl)
 
-  next-whole : (k : ℕ) {x : ℕ} {xs : List ℕ} → nextBack (plainly d) e k ≡ x ∷ xs → nextBack (plainly d) e k ≡ nextBack d e k
+  next-whole : (k : ℕ) {x : ℕ} {xs : List ℕ} → nextBack (plainCoded d) e k ≡ x ∷ xs → nextBack (plainCoded d) e k ≡ nextBack d e k
   unfolding nextBack
   next-whole zero q = refl
-  next-whole (suc k) {x} {xs} q = go (nextBack (plainly d) e k) (nextBack d e k) (λ y ys. next-whole k) q
+  next-whole (suc k) {x} {xs} q = go (nextBack (plainCoded d) e k) (nextBack d e k) (λ y ys. next-whole k) q
     where
-      go : (ns ms : List ℕ) → ((y : ℕ) (ys : List ℕ) → ns ≡ y ∷ ys → ns ≡ ms) → onward (λ n. nextOf n (stepBack (plainly d) e k n)) ns ≡ x ∷ xs
-          → onward (λ n. nextOf n (stepBack (plainly d) e k n)) ns ≡ onward (λ n. nextOf n (stepBack d e k n)) ms
+      go : (ns ms : List ℕ) → ((y : ℕ) (ys : List ℕ) → ns ≡ y ∷ ys → ns ≡ ms) → onward (λ n. nextOf n (stepBack (plainCoded d) e k n)) ns ≡ x ∷ xs
+          → onward (λ n. nextOf n (stepBack (plainCoded d) e k n)) ns ≡ onward (λ n. nextOf n (stepBack d e k n)) ms
       go [] ms h q = absurd (nothing-read refl q)
-      go (n ∷ ns) ms h q = next-step n (stepBack (plainly d) e k n) (stepBack d e k n) (λ y ys. code-whole (e + k) n (d .codes ! (e + k))) q ∙ ap (onward (λ n. nextOf n (stepBack d e k n))) (h _ _ refl)
+      go (n ∷ ns) ms h q = next-step n (stepBack (plainCoded d) e k n) (stepBack d e k n) (λ y ys. code-whole (e + k) n (d .codes ! (e + k))) q ∙ ap (onward (λ n. nextOf n (stepBack d e k n))) (h _ _ refl)
 
-  walk-whole : (k : ℕ) {x : ℕ} {xs : List ℕ} → walkBack (plainly d) e k ≡ x ∷ xs → walkBack (plainly d) e k ≡ walkBack d e k
+  walk-whole : (k : ℕ) {x : ℕ} {xs : List ℕ} → walkBack (plainCoded d) e k ≡ x ∷ xs → walkBack (plainCoded d) e k ≡ walkBack d e k
   unfolding walkBack
-  walk-whole k {x} {xs} q = go (nextBack (plainly d) e k) (nextBack d e k) (λ y ys. next-whole k) q
+  walk-whole k {x} {xs} q = go (nextBack (plainCoded d) e k) (nextBack d e k) (λ y ys. next-whole k) q
     where
-      go : (ns ms : List ℕ) → ((y : ℕ) (ys : List ℕ) → ns ≡ y ∷ ys → ns ≡ ms) → onward (stepBack (plainly d) e k) ns ≡ x ∷ xs → onward (stepBack (plainly d) e k) ns ≡ onward (stepBack d e k) ms
+      go : (ns ms : List ℕ) → ((y : ℕ) (ys : List ℕ) → ns ≡ y ∷ ys → ns ≡ ms) → onward (stepBack (plainCoded d) e k) ns ≡ x ∷ xs → onward (stepBack (plainCoded d) e k) ns ≡ onward (stepBack d e k) ms
       go [] ms h q = absurd (nothing-read refl q)
       go (n ∷ ns) ms h q = code-whole (e + k) n (d .codes ! (e + k)) q ∙ ap (onward (stepBack d e k)) (h _ _ refl)
 
-  pub exact-whole : (k : ℕ) {x : ℕ} {xs : List ℕ} → exactBack (plainly d) e k ≡ x ∷ xs → exactBack (plainly d) e k ≡ exactBack d e k
+  pub exact-whole : (k : ℕ) {x : ℕ} {xs : List ℕ} → exactBack (plainCoded d) e k ≡ x ∷ xs → exactBack (plainCoded d) e k ≡ exactBack d e k
   unfolding exactBack
   exact-whole k {x} {xs} q = go (leb 32768 (d .codes ! (e + k))) q
     where
-      go : (t : Bool) → cond t (walkBack (plainly d) e k) (stepBack (plainly d) e k 0) ≡ x ∷ xs → cond t (walkBack (plainly d) e k) (stepBack (plainly d) e k 0) ≡ cond t (walkBack d e k) (stepBack d e k 0)
+      go : (t : Bool) → cond t (walkBack (plainCoded d) e k) (stepBack (plainCoded d) e k 0) ≡ x ∷ xs → cond t (walkBack (plainCoded d) e k) (stepBack (plainCoded d) e k 0) ≡ cond t (walkBack d e k) (stepBack d e k 0)
       go true q = walk-whole k q
       go false q = code-whole (e + k) 0 (d .codes ! (e + k)) q
 
@@ -173,15 +174,15 @@ module _ (c : Columns) (o t : ℕ) where
   pub label-whole : accepts (labelFound (leanly c) o t) ≡ true → labelFound (leanly c) o t ≡ labelFound c o t
   unfolding labelFound
   label-whole h =
-      let a = by-span s (cond (ltb k n) (orColumns o (exactBack (plainly (c .labels)) (s ! 1) k)) (0 ∷ [])) h in
+      let a = by-span s (cond (ltb k n) (orColumns o (exactBack (plainCoded (c .labels)) (s ! 1) k)) (0 ∷ [])) h in
       go (accepts s) a (ltb k n) h ∙ ap from (span-whole (c .offsets) (length (c .labels .codes)) (length (c .targets)) o a)
     where
       from : List ℕ → List ℕ
       from s = cond (accepts s) (cond (ltb (firstPlace (goesTo (c .targets) (s ! 1) t) (s ! 2 - s ! 1)) (s ! 2 - s ! 1)) (orColumns o (exactBack (c .labels) (s ! 1) (firstPlace (goesTo (c .targets) (s ! 1) t) (s ! 2 - s ! 1)))) (0 ∷ [])) s
 
-      go : (b : Bool) → b ≡ true → (u : Bool) → accepts (cond b (cond u (orColumns o (exactBack (plainly (c .labels)) (s ! 1) k)) (0 ∷ [])) s) ≡ true
-          → cond b (cond u (orColumns o (exactBack (plainly (c .labels)) (s ! 1) k)) (0 ∷ [])) s ≡ cond b (cond u (orColumns o (exactBack (c .labels) (s ! 1) k)) (0 ∷ [])) s
-      go true e true q = is-read o (exactBack (plainly (c .labels)) (s ! 1) k) (exactBack (c .labels) (s ! 1) k) (λ y ys. exact-whole (c .labels) (s ! 1) k) q
+      go : (b : Bool) → b ≡ true → (u : Bool) → accepts (cond b (cond u (orColumns o (exactBack (plainCoded (c .labels)) (s ! 1) k)) (0 ∷ [])) s) ≡ true
+          → cond b (cond u (orColumns o (exactBack (plainCoded (c .labels)) (s ! 1) k)) (0 ∷ [])) s ≡ cond b (cond u (orColumns o (exactBack (c .labels) (s ! 1) k)) (0 ∷ [])) s
+      go true e true q = is-read o (exactBack (plainCoded (c .labels)) (s ! 1) k) (exactBack (c .labels) (s ! 1) k) (λ y ys. exact-whole (c .labels) (s ! 1) k) q
       go true e false q = refl
       go false e u q = absurd (false≢true e)
 
@@ -196,48 +197,48 @@ module _ (d : Coded) (e n l : ℕ) where
   more : {k a : ℕ} {xs : List ℕ} → Searching (stops d e l) n k → k < n → coarseBack d (e + k) ≡ a ∷ xs → eqb a l ≡ false → Searching (stops d e l) n (k + 1)
   more s h r q = searching-more (stops d e l) n s h (rw r q)
 
-module _ (d : Coded) (e n l : ℕ) (good : decoded (plainly d) e n l ≡ Bad → ⊥) where
-  step : (k : ℕ) → k < n → Searching (stops (plainly d) e l) n k → Searching (stops d e l) n k
-      → (Searching (stops (plainly d) e l) n (k + 1) → Searching (stops d e l) n (k + 1) → decoded (plainly d) e n l ≡ decoded d e n l) → decoded (plainly d) e n l ≡ decoded d e n l
-  step k h p w onward = go (coarseBack (plainly d) (e + k)) refl
+module _ (d : Coded) (e n l : ℕ) (good : decoded (plainCoded d) e n l ≡ Bad → ⊥) where
+  step : (k : ℕ) → k < n → Searching (stops (plainCoded d) e l) n k → Searching (stops d e l) n k
+      → (Searching (stops (plainCoded d) e l) n (k + 1) → Searching (stops d e l) n (k + 1) → decoded (plainCoded d) e n l ≡ decoded d e n l) → decoded (plainCoded d) e n l ≡ decoded d e n l
+  step k h p w onward = go (coarseBack (plainCoded d) (e + k)) refl
     where
-      go : (ls : List ℕ) → coarseBack (plainly d) (e + k) ≡ ls → decoded (plainly d) e n l ≡ decoded d e n l
-      go [] r = absurd (good (sym (decoded-bad (plainly d) e n l p h r)))
+      go : (ls : List ℕ) → coarseBack (plainCoded d) (e + k) ≡ ls → decoded (plainCoded d) e n l ≡ decoded d e n l
+      go [] r = absurd (good (sym (decoded-bad (plainCoded d) e n l p h r)))
       go (a ∷ xs) r = which (eqb a l) refl
         where
           whole : coarseBack d (e + k) ≡ a ∷ xs
           whole = sym (coarse-whole d e (e + k) r) ∙ r
 
-          which : (t : Bool) → eqb a l ≡ t → decoded (plainly d) e n l ≡ decoded d e n l
-          which true q = sym (hit (plainly d) e n l p h r q) ∙ hit d e n l w h whole q
-          which false q = onward (more (plainly d) e n l p h r q) (more d e n l w h whole q)
+          which : (t : Bool) → eqb a l ≡ t → decoded (plainCoded d) e n l ≡ decoded d e n l
+          which true q = sym (hit (plainCoded d) e n l p h r q) ∙ hit d e n l w h whole q
+          which false q = onward (more (plainCoded d) e n l p h r q) (more d e n l w h whole q)
 
-  walks : (m k : ℕ) → k + m ≡ n → Searching (stops (plainly d) e l) n k → Searching (stops d e l) n k → decoded (plainly d) e n l ≡ decoded d e n l
-  walks zero k z p w = sym (decoded-end (plainly d) e n l p (omega arith)) ∙ decoded-end d e n l w (omega arith)
+  walks : (m k : ℕ) → k + m ≡ n → Searching (stops (plainCoded d) e l) n k → Searching (stops d e l) n k → decoded (plainCoded d) e n l ≡ decoded d e n l
+  walks zero k z p w = sym (decoded-end (plainCoded d) e n l p (omega arith)) ∙ decoded-end d e n l w (omega arith)
   walks (suc m) k z p w = step k (omega arith) p w (walks m (k + 1) (omega arith))
 
-  decoded-whole : decoded (plainly d) e n l ≡ decoded d e n l
-  decoded-whole = walks n 0 (omega arith) (searching-start (stops (plainly d) e l) n) (searching-start (stops d e l) n)
+  decoded-whole : decoded (plainCoded d) e n l ≡ decoded d e n l
+  decoded-whole = walks n 0 (omega arith) (searching-start (stops (plainCoded d) e l) n) (searching-start (stops d e l) n)
 
-sought-whole : (d : Coded) (table : List ℕ) (e n l : ℕ) → (soughtIn (plainly d) table e n l ≡ Bad → ⊥) → soughtIn (plainly d) table e n l ≡ soughtIn d table e n l
+sought-whole : (d : Coded) (table : List ℕ) (e n l : ℕ) → (soughtIn (plainCoded d) table e n l ≡ Bad → ⊥) → soughtIn (plainCoded d) table e n l ≡ soughtIn d table e n l
 unfolding soughtIn
-sought-whole d table e n l = go (eqb l ARRAY-ELEMENT) (isElement l) (eqb (codeIn (d .fields) table l) 32767)
+sought-whole d table e n l = go (eqb l ARRAY-ELEMENT) (isElement l) (eqb (codeFromTable (d .fields) table l) 32767)
   where
     x : Sought
-    x = placed (elementAt d e) n
+    x = firstSought (elementAt d e) n
 
     y : Sought
-    y = placed (codeAt d e (codeIn (d .fields) table l)) n
+    y = firstSought (hasCode d e (codeFromTable (d .fields) table l)) n
 
-    go : (a b z : Bool) → (cond a x (cond b Nothing (cond z (decoded (plainly d) e n l) y)) ≡ Bad → ⊥) → cond a x (cond b Nothing (cond z (decoded (plainly d) e n l) y)) ≡ cond a x (cond b Nothing (cond z (decoded d e n l) y))
+    go : (a b z : Bool) → (cond a x (cond b Nothing (cond z (decoded (plainCoded d) e n l) y)) ≡ Bad → ⊥) → cond a x (cond b Nothing (cond z (decoded (plainCoded d) e n l) y)) ≡ cond a x (cond b Nothing (cond z (decoded d e n l) y))
     go true b z q = refl
     go false true z q = refl
     go false false true q = decoded-whole d e n l q
     go false false false q = refl
 
-is-found : (ts : List ℕ) (e o : ℕ) (x y : Sought) → ((x ≡ Bad → ⊥) → x ≡ y) → accepts (targetOf ts e o x) ≡ true → targetOf ts e o x ≡ targetOf ts e o y
-is-found ts e o (At k) y h q = ap (targetOf ts e o) (h (λ r. let z : _≡_ {A = ℕ} 0 1 = cc in absurd (omega arith)))
-is-found ts e o Nothing y h q = ap (targetOf ts e o) (h (λ r. let z : _≡_ {A = ℕ} 0 1 = cc in absurd (omega arith)))
+is-found : (ts : List ℕ) (e o : ℕ) (x y : Sought) → ((x ≡ Bad → ⊥) → x ≡ y) → accepts (soughtTarget ts e o x) ≡ true → soughtTarget ts e o x ≡ soughtTarget ts e o y
+is-found ts e o (At k) y h q = ap (soughtTarget ts e o) (h (λ r. let z : _≡_ {A = ℕ} 0 1 = cc in absurd (omega arith)))
+is-found ts e o Nothing y h q = ap (soughtTarget ts e o) (h (λ r. let z : _≡_ {A = ℕ} 0 1 = cc in absurd (omega arith)))
 is-found ts e o Bad y h q = absurd (false≢true (sym (no-columns o) ∙ q))
 
 module _ (c : Columns) (table : List ℕ) (o l : ℕ) where
@@ -247,15 +248,15 @@ module _ (c : Columns) (table : List ℕ) (o l : ℕ) where
   pub field-whole : accepts (fieldFound (leanly c) table o l) ≡ true → fieldFound (leanly c) table o l ≡ fieldFound c table o l
   unfolding fieldFound
   field-whole h =
-      let a = by-span at (targetOf (c .targets) (at ! 1) o (soughtIn (plainly (c .labels)) table (at ! 1) (at ! 2 - at ! 1) l)) h in
+      let a = by-span at (soughtTarget (c .targets) (at ! 1) o (soughtIn (plainCoded (c .labels)) table (at ! 1) (at ! 2 - at ! 1) l)) h in
       go (accepts at) a h ∙ ap from (span-whole (c .offsets) (length (c .labels .codes)) (length (c .targets)) o a)
     where
       from : List ℕ → List ℕ
-      from s = cond (accepts s) (targetOf (c .targets) (s ! 1) o (soughtIn (c .labels) table (s ! 1) (s ! 2 - s ! 1) l)) s
+      from s = cond (accepts s) (soughtTarget (c .targets) (s ! 1) o (soughtIn (c .labels) table (s ! 1) (s ! 2 - s ! 1) l)) s
 
-      go : (b : Bool) → b ≡ true → accepts (cond b (targetOf (c .targets) (at ! 1) o (soughtIn (plainly (c .labels)) table (at ! 1) (at ! 2 - at ! 1) l)) at) ≡ true
-          → cond b (targetOf (c .targets) (at ! 1) o (soughtIn (plainly (c .labels)) table (at ! 1) (at ! 2 - at ! 1) l)) at ≡ cond b (targetOf (c .targets) (at ! 1) o (soughtIn (c .labels) table (at ! 1) (at ! 2 - at ! 1) l)) at
-      go true e q = is-found (c .targets) (at ! 1) o (soughtIn (plainly (c .labels)) table (at ! 1) (at ! 2 - at ! 1) l) (soughtIn (c .labels) table (at ! 1) (at ! 2 - at ! 1) l) (sought-whole (c .labels) table (at ! 1) (at ! 2 - at ! 1) l) q
+      go : (b : Bool) → b ≡ true → accepts (cond b (soughtTarget (c .targets) (at ! 1) o (soughtIn (plainCoded (c .labels)) table (at ! 1) (at ! 2 - at ! 1) l)) at) ≡ true
+          → cond b (soughtTarget (c .targets) (at ! 1) o (soughtIn (plainCoded (c .labels)) table (at ! 1) (at ! 2 - at ! 1) l)) at ≡ cond b (soughtTarget (c .targets) (at ! 1) o (soughtIn (c .labels) table (at ! 1) (at ! 2 - at ! 1) l)) at
+      go true e q = is-found (c .targets) (at ! 1) o (soughtIn (plainCoded (c .labels)) table (at ! 1) (at ! 2 - at ! 1) l) (soughtIn (c .labels) table (at ! 1) (at ! 2 - at ! 1) l) (sought-whole (c .labels) table (at ! 1) (at ! 2 - at ! 1) l) q
       go false e q = absurd (false≢true e)
 
   or-reads : (f w : List ℕ) → accepts (orWeak f w) ≡ true → accepts f ≡ true
@@ -271,4 +272,4 @@ module _ (c : Columns) (table : List ℕ) (o l : ℕ) where
   referent-whole h = ap (λ (f : List ℕ). orWeak f w) (field-whole (or-reads (fieldFound (leanly c) table o l) w h))
     where
       w : List ℕ
-      w = firstWeak (weakOf (length (c .offsets .short)) (c .weakFrom) (c .weakTo) o) (c .weakTo)
+      w = firstWeak (weakRowsOf (length (c .offsets .short)) (c .weakFrom) (c .weakTo) o) (c .weakTo)

@@ -9,7 +9,8 @@ use Rattle.store.specs.Blocked.{Blocked, blockedOf}
 use Rattle.rules.specs.Labels.{Coded}
 use Rattle.rules.specs.Questions.{Columns}
 use Rattle.labels.specs.Reading.{codedOf, codeBack, exactBack}
-use Rattle.ask_graph.specs.Labelled.{spanIn, graphOf, goesTo, orColumns}
+use Rattle.ask_span.specs.Graph.{spanIn, graphOf}
+use Rattle.ask_label.specs.Labelled.{goesTo, orColumns}
 
 -- offsets without the long ones
 abbrev pub shortOf : List ℕ → List ℕ → Blocked
@@ -24,7 +25,16 @@ plainBack fields n c = codeBack fields [] [] 0 n c
 
 -- a graph without both
 abbrev pub leanOf : List ℕ → List ℕ → List ℕ → List ℕ → List ℕ → List ℕ → List ℕ → Columns
-leanOf bases short codes targets fields weakFrom weakTo = graphOf bases short [] [] codes targets fields [] [] weakFrom weakTo
+leanOf bases short codes targets fields weakFrom weakTo = graphOf (shortOf bases short) targets (plainOf codes fields) weakFrom weakTo
+
+-- the same of columns that a clause names, and of those of the edges alone
+module _ {A : Type 0} (read : A → List ℕ) where
+  abbrev pub leanColumns : A → A → A → A → A → A → A → Columns
+  leanColumns bases short codes targets fields weakFrom weakTo =
+      leanOf (read bases) (read short) (read codes) (read targets) (read fields) (read weakFrom) (read weakTo)
+
+  abbrev pub leanEdges : A → A → A → A → A → Columns
+  leanEdges bases short codes targets fields = leanOf (read bases) (read short) (read codes) (read targets) (read fields) [] []
 
 -- "`label_of` gives the exact label of the first edge to a target; a target that is no object is not found."
 unfoldable pub labelFound : Columns → ℕ → ℕ → List ℕ

@@ -1,6 +1,6 @@
 // The target of an object's field, and of its weak reference, without the escapes.
 use super::span;
-use ask_graph::field::Sought;
+use ask_field::Sought;
 use labels::EdgeLabel;
 use labels::code::ESCAPED;
 use rules::Field;
@@ -12,16 +12,17 @@ ghost use mathlib.Core.List.{[], _∷_};
 ghost use Prim.Native.Nat.{_+_, _≤_};
 ghost use lib.ListN.{length};
 ghost use mathlib.Core.Bool.{true};
+ghost use Rattle.columns.specs.Loans.{entry};
 ghost use Rattle.columns.specs.Ranks.{bisect};
 ghost use Rattle.rules.specs.Types.{fieldSays, referentSays};
-ghost use Rattle.ask_graph.specs.Reading.{weakOf};
-ghost use Rattle.ask_graph.specs.Sought.{decoded, soughtIn, fieldFound, firstWeak, referentFound};
-ghost use Rattle.ask_short.specs.Lean.{plainOf, leanOf};
+ghost use Rattle.ask_span.specs.Reading.{weakRowsOf};
+ghost use Rattle.ask_field.specs.Sought.{decoded, soughtIn, fieldFound, firstWeak, referentFound};
+ghost use Rattle.ask_short.specs.Lean.{plainOf, leanColumns, leanEdges};
 
 // The first edge with a label that has no code: each edge's label is read.
 fn first_label(codes: &[u16], start: usize, count: usize, fields: &[u32], label: u32) -> Sought
     requires { ⌜ start + count ≤ length (now codes) ⌝ }
-    ensures { λ r. ⌜ r ≡ decoded (plainOf (now (codes .entry)) (now (fields .entry))) start count label ⌝ }
+    ensures { λ r. ⌜ r ≡ decoded (plainOf (entry codes) (entry fields)) start count label ⌝ }
 {
     let mut k = 0;
     while k < count {
@@ -51,19 +52,19 @@ fn seek(
     label: u32,
 ) -> Sought
     requires { ⌜ start + count ≤ length (now codes) ⌝ }
-    ensures { λ r. ⌜ r ≡ soughtIn (plainOf (now (codes .entry)) (now (fields .entry))) (now (table .entry)) start count label ⌝ }
+    ensures { λ r. ⌜ r ≡ soughtIn (plainOf (entry codes) (entry fields)) (entry table) start count label ⌝ }
 {
     if label == Label::ARRAY_ELEMENT {
-        return ask_graph::field::first_element(codes, start, count);
+        return ask_field::first_element(codes, start, count);
     }
     if Label::ARRAY_ELEMENT <= label {
         return Sought::Nothing;
     }
-    let code = ask_graph::field::code_of(fields, table, label);
+    let code = ask_field::code_of(fields, table, label);
     if code == ESCAPED {
         return first_label(codes, start, count, fields, label);
     }
-    ask_graph::field::first_code(codes, start, count, code)
+    ask_field::first_code(codes, start, count, code)
 }
 
 // The target of a field of an object: of its first edge whose coarse label matches.
@@ -77,14 +78,14 @@ pub fn field(
     object: usize,
     label: u32,
 ) -> Field
-    ensures { λ r. ⌜ fieldSays r ≡ fieldFound (leanOf (now (bases .entry)) (now (short .entry)) (now (codes .entry)) (now (targets .entry)) (now (fields .entry)) [] []) (now (table .entry)) object label ⌝ }
+    ensures { λ r. ⌜ fieldSays r ≡ fieldFound (leanEdges entry bases short codes targets fields) (entry table) object label ⌝ }
 {
     let at = span(bases, short, codes.len(), targets.len(), object);
     match at {
         Span::Edges { start, end } => {
             let sought = seek(codes, start, end - start, fields, table, label);
             match sought {
-                Sought::At(k) => Field::Target(ask_graph::field::target_at(targets, start + k)),
+                Sought::At(k) => Field::Target(ask_field::target_at(targets, start + k)),
                 Sought::Nothing => Field::Nothing,
                 Sought::Bad => Field::Columns(object),
             }
@@ -96,7 +97,7 @@ pub fn field(
 
 // Whether bisection meets no number that is x: then it ends for x and for the next number at one place.
 fn absent(xs: &[u32], x: u64) -> bool
-    ensures { λ r. ⌜ (r ≡ true → bisect (now (xs .entry)) x ≡ bisect (now (xs .entry)) (x + 1)) ⌝ }
+    ensures { λ r. ⌜ (r ≡ true → bisect (entry xs) x ≡ bisect (entry xs) (x + 1)) ⌝ }
 {
     let mut lo = 0;
     let mut hi = xs.len();
@@ -117,7 +118,7 @@ fn absent(xs: &[u32], x: u64) -> bool
 
 // Whether an object is seen to have no weak pair by one bisection.
 fn no_weak(short: &[u16], weak_from: &[u32], weak_to: &[u32], object: usize) -> bool
-    ensures { λ r. ⌜ (r ≡ true → firstWeak (weakOf (length (now (short .entry))) (now («weak_from» .entry)) (now («weak_to» .entry)) object) (now («weak_to» .entry)) ≡ 0 ∷ []) ⌝ }
+    ensures { λ r. ⌜ (r ≡ true → firstWeak (weakRowsOf (length (entry short)) (entry «weak_from») (entry «weak_to») object) (entry «weak_to») ≡ 0 ∷ []) ⌝ }
 {
     if short.len() <= object {
         return false;
@@ -133,13 +134,13 @@ fn no_weak(short: &[u16], weak_from: &[u32], weak_to: &[u32], object: usize) -> 
 
 // The first of an object's weak targets. Few objects have one, so that is looked at first.
 fn first_weak(short: &[u16], weak_from: &[u32], weak_to: &[u32], object: usize) -> Referent
-    ensures { λ r. ⌜ referentSays r ≡ firstWeak (weakOf (length (now (short .entry))) (now («weak_from» .entry)) (now («weak_to» .entry)) object) (now («weak_to» .entry)) ⌝ }
+    ensures { λ r. ⌜ referentSays r ≡ firstWeak (weakRowsOf (length (entry short)) (entry «weak_from») (entry «weak_to») object) (entry «weak_to») ⌝ }
 {
     let none = no_weak(short, weak_from, weak_to, object);
     if none {
         return Referent::Nothing;
     }
-    ask_graph::field::first_weak(short, weak_from, weak_to, object)
+    ask_field::first_weak(short, weak_from, weak_to, object)
 }
 
 // The target of a field of an object, or where it has none its smallest weak target.
@@ -155,7 +156,7 @@ pub fn referent(
     object: usize,
     label: u32,
 ) -> Referent
-    ensures { λ r. ⌜ referentSays r ≡ referentFound (leanOf (now (bases .entry)) (now (short .entry)) (now (codes .entry)) (now (targets .entry)) (now (fields .entry)) (now («weak_from» .entry)) (now («weak_to» .entry))) (now (table .entry)) object label ⌝ }
+    ensures { λ r. ⌜ referentSays r ≡ referentFound (leanColumns entry bases short codes targets fields «weak_from» «weak_to») (entry table) object label ⌝ }
 {
     let held = field(bases, short, codes, targets, fields, table, object, label);
     match held {

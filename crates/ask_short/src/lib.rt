@@ -6,44 +6,23 @@ pub mod label;
 use rules::Span;
 use store::Offset;
 ghost use mathlib.Core.Path.{_≡_};
-ghost use Rattle.store.specs.Blocked.{offsetSays, shortBack, readBack};
+ghost use Rattle.columns.specs.Loans.{entry};
+ghost use Rattle.store.specs.Blocked.{offsetSays, readBack};
 ghost use Rattle.rules.specs.Types.{spanSays};
-ghost use Rattle.ask_graph.specs.Reading.{spanOf};
+ghost use Rattle.ask_span.specs.Reading.{spanOf};
 ghost use Rattle.ask_short.specs.Lean.{shortOf};
-
-// A short number on its block's base.
-fn short_at(bases: &[u64], s: u16, i: usize) -> Offset
-    ensures { λ r. ⌜ offsetSays r ≡ shortBack (now (bases .entry)) s i ⌝ }
-{
-    let b = i / 256;
-    if bases.len() <= b {
-        return Offset::Columns(i);
-    }
-    let base = bases[b];
-    let d = s as u64;
-    if 18446744073709551615 - base < d {
-        return Offset::Columns(i);
-    }
-    Offset::Value(base + d)
-}
 
 // The offset at i, where it is short.
 fn offset(bases: &[u64], short: &[u16], i: usize) -> Offset
-    ensures { λ r. ⌜ offsetSays r ≡ readBack (shortOf (now (bases .entry)) (now (short .entry))) i ⌝ }
+    ensures { λ r. ⌜ offsetSays r ≡ readBack (shortOf (entry bases) (entry short)) i ⌝ }
 {
-    if short.len() <= i {
-        return Offset::Index(i);
-    }
-    let s = short[i];
-    if s == 65535 {
-        return Offset::Columns(i);
-    }
-    short_at(bases, s, i)
+    let none: [u32; 0] = [0; 0];
+    store::offset_at(bases, short, &none, &bases[..0], i)
 }
 
 // Where the edges of an object sit, where both its offsets are short and it ends within codes and targets.
 pub fn span(bases: &[u64], short: &[u16], codes: usize, targets: usize, object: usize) -> Span
-    ensures { λ r. ⌜ spanSays r ≡ spanOf (shortOf (now (bases .entry)) (now (short .entry))) codes targets object ⌝ }
+    ensures { λ r. ⌜ spanSays r ≡ spanOf (shortOf (entry bases) (entry short)) codes targets object ⌝ }
 {
     if short.len() <= object {
         return Span::Index(object);
@@ -53,5 +32,5 @@ pub fn span(bases: &[u64], short: &[u16], codes: usize, targets: usize, object: 
     }
     let first = offset(bases, short, object);
     let next = offset(bases, short, object + 1);
-    ask_graph::between(first, next, codes, targets, object)
+    ask_span::between(first, next, codes, targets, object)
 }

@@ -12,8 +12,8 @@ use Rattle.rules.specs.declared.Built.{Built}
 use Rattle.rules.specs.Types.{builtSays}
 use Rattle.rules.specs.Input.{Input, Schema, objectCount, classCount}
 use Rattle.rules.specs.Edges.{Parts, graph, offset, edges}
-use Rattle.rules.specs.Needs.{Lent, shortOfParts}
-use Rattle.rules.specs.Verdict.{firstOf, at, counts, plainCounts}
+use Rattle.rules.specs.Needs.{Lent, Rooms, shortOfParts}
+use Rattle.rules.specs.Verdict.{firstOf, at, counts, badLengths, badLimit, badDumped, plainCounts}
 use Rattle.rules.specs.Built.{CodedLeft, codedLeft, buildLeft}
 use Rattle.rules.proofs.Acceptance.{Passed, limits-good, class-good}
 use Rattle.rules.proofs.Laid.{build-meets, objects-are}
@@ -22,8 +22,8 @@ use Rattle.rules.proofs.Used.{refused-coded}
 use Rattle.rules.proofs.Even.{schema-lengths}
 use Rattle.code_stages.specs.Stages.{handOn, Ready}
 use Rattle.code_columns.proofs.Readying.{ready-parts}
-use Rattle.code_columns.specs.Finished.{Finished, namingOf}
-use Rattle.build_rooms.specs.Stages.{kept, early, leftOf, roomsOf}
+use Rattle.code_columns.specs.Finished.{Coding, Hands, Finished, namingOf}
+use Rattle.build_rooms.specs.Stages.{kept, edgeSays, early, leftOf, roomsOf, Laid}
 use Rattle.build_rooms.proofs.Compose.{built-left, edge-accepts, edge-passed}
 use Rattle.build_edges.specs.Laying.{Laying}
 use Rattle.build.specs.Build.{offsetsUsed, labelsUsed, Rest}

@@ -20,6 +20,10 @@ labelsUsed says ls = take (kept 1 says) ls
 abbrev pub Asked : Naming → ℕ → ℕ → ℕ → List ℕ → List ℕ → List ℕ → Type 0
 Asked g classes names objects before ls wk = Where before (Ready g classes names (offsetsUsed objects wk) (labelsUsed before ls))
 
-pub record Rest (g : Naming) (classes names objects : ℕ) (before ts ls fs ws rs wk : List ℕ) (a : List (List ℕ)) (l : Lent) (says ts′ ls′ fs′ ws′ rs′ wk′ : List ℕ) (a′ : List (List ℕ)) (d : CodedLeft) : Type 0 where
+pub record Rest
+    (g : Naming) (classes names objects : ℕ)
+    (before ts ls fs ws rs wk : List ℕ) (a : List (List ℕ)) (l : Lent)
+    (says ts′ ls′ fs′ ws′ rs′ wk′ : List ℕ) (a′ : List (List ℕ)) (d : CodedLeft)
+    : Type 0 where
   pub coded : Coding g classes names (offsetsUsed objects wk) (labelsUsed before ls) before l says d
   pub settled : Settled says ts ls fs ws rs wk a ts′ ls′ fs′ ws′ rs′ wk′ a′

@@ -3,14 +3,12 @@ use rules::Built;
 use rules::ReferencePolicy;
 ghost use mathlib.Core.Path.{_≡_};
 ghost use Prim.Native.Nat.{_+_, _≤_, min};
-ghost use lib.ListN.{length};
 ghost use Rattle.rules.specs.Types.{builtSays};
 ghost use Rattle.rules.specs.Built.{buildLeft};
-ghost use Rattle.labels.specs.Fields.{naming};
-ghost use Rattle.code_columns.specs.Finished.{Coding, lentOf};
-ghost use Rattle.code_columns.specs.Finished.{leftOf as codedOf};
-ghost use Rattle.check_input.specs.Flat.{copiedInput, rawInput};
-ghost use Rattle.build_rooms.specs.Stages.{leftOf, roomsOf};
+ghost use Rattle.code_columns.specs.Finished.{Coding};
+ghost use Rattle.columns.specs.Loans.{entry, exit};
+ghost use Rattle.rules.specs.Tables.{objectTable, classTable, slotTable, staticTable, schemaOf, copiedRoute, rawRoute, inputOf, roomOf, codingRoom, leftIn, codingLeft};
+ghost use Rattle.labels.specs.Fields.{nameColumns};
 ghost use Rattle.build.specs.Build.{offsetsUsed, labelsUsed, Asked, Rest};
 
 // As many of a column's numbers as there are: `more` and one, or all.
@@ -47,8 +45,14 @@ fn code_used(
     counting: &mut [u64],
     ranking: &mut [u64],
 ) -> Built
-    requires { ⌜ Asked (naming (now «slot_starts») (now «slot_ends») (now «static_starts») (now «static_ends») (now «slot_labels») (now «static_names») (now «static_types»)) classes names objects (builtSays v) (now labels) (now working) ⌝ }
-    ensures { λ r. ⌜ Coding (naming (now («slot_starts» .entry)) (now («slot_ends» .entry)) (now («static_starts» .entry)) (now («static_ends» .entry)) (now («slot_labels» .entry)) (now («static_names» .entry)) (now («static_types» .entry))) classes names (offsetsUsed objects (now (working .entry))) (labelsUsed (builtSays v) (now (labels .entry))) (builtSays v) (lentOf (length (now (bases .entry))) (length (now (short .entry))) (length (now («long_at» .entry))) (length (now («long_value» .entry))) (length (now (fields .entry))) (length (now (table .entry))) (length (now («escape_at» .entry))) (length (now («escape_label» .entry))) (length (now («edge_codes» .entry))) (length (now (counting .entry))) (length (now (ranking .entry)))) (builtSays r) (codedOf (now (bases .exit)) (now (short .exit)) (now («long_at» .exit)) (now («long_value» .exit)) (now (fields .exit)) (now (table .exit)) (now («escape_at» .exit)) (now («escape_label» .exit)) (now («edge_codes» .exit)) (now (counting .exit)) (now (ranking .exit))) ⌝ }
+    requires { ⌜ (
+        let named = nameColumns now «slot_starts» «slot_ends» «static_starts» «static_ends» «slot_labels» «static_names» «static_types» in
+        Asked named classes names objects (builtSays v) (now labels) (now working)) ⌝ }
+    ensures { λ r. ⌜ (
+        let named = nameColumns entry «slot_starts» «slot_ends» «static_starts» «static_ends» «slot_labels» «static_names» «static_types» in
+        let room = codingRoom entry bases short «long_at» «long_value» fields table «escape_at» «escape_label» «edge_codes» counting ranking in
+        let left = codingLeft exit bases short «long_at» «long_value» fields table «escape_at» «escape_label» «edge_codes» counting ranking in
+        Coding named classes names (offsetsUsed objects (entry working)) (labelsUsed (builtSays v) (entry labels)) (builtSays v) room (builtSays r) left) ⌝ }
 {
     let n = up_to(objects, working.len());
     let m = build_rooms::least(build_rooms::edges_kept(v), labels.len());
@@ -111,8 +115,16 @@ fn finish(
     counting: &mut [u64],
     ranking: &mut [u64],
 ) -> Built
-    requires { ⌜ Asked (naming (now «slot_starts») (now «slot_ends») (now «static_starts») (now «static_ends») (now «slot_labels») (now «static_names») (now «static_types»)) classes names objects (builtSays v) (now labels) (now working) ⌝ }
-    ensures { λ r. ⌜ Rest (naming (now («slot_starts» .entry)) (now («slot_ends» .entry)) (now («static_starts» .entry)) (now («static_ends» .entry)) (now («slot_labels» .entry)) (now («static_names» .entry)) (now («static_types» .entry))) classes names objects (builtSays v) (now (targets .entry)) (now (labels .entry)) (now («weak_from» .entry)) (now («weak_to» .entry)) (now («roots_out» .entry)) (now (working .entry)) (now (account .entry)) (lentOf (length (now (bases .entry))) (length (now (short .entry))) (length (now («long_at» .entry))) (length (now («long_value» .entry))) (length (now (fields .entry))) (length (now (table .entry))) (length (now («escape_at» .entry))) (length (now («escape_label» .entry))) (length (now («edge_codes» .entry))) (length (now (counting .entry))) (length (now (ranking .entry)))) (builtSays r) (now (targets .exit)) (now (labels .exit)) (now («weak_from» .exit)) (now («weak_to» .exit)) (now («roots_out» .exit)) (now (working .exit)) (now (account .exit)) (codedOf (now (bases .exit)) (now (short .exit)) (now («long_at» .exit)) (now («long_value» .exit)) (now (fields .exit)) (now (table .exit)) (now («escape_at» .exit)) (now («escape_label» .exit)) (now («edge_codes» .exit)) (now (counting .exit)) (now (ranking .exit))) ⌝ }
+    requires { ⌜ (
+        let named = nameColumns now «slot_starts» «slot_ends» «static_starts» «static_ends» «slot_labels» «static_names» «static_types» in
+        Asked named classes names objects (builtSays v) (now labels) (now working)) ⌝ }
+    ensures { λ r. ⌜ (
+        let named = nameColumns entry «slot_starts» «slot_ends» «static_starts» «static_ends» «slot_labels» «static_names» «static_types» in
+        let room = codingRoom entry bases short «long_at» «long_value» fields table «escape_at» «escape_label» «edge_codes» counting ranking in
+        let left = codingLeft exit bases short «long_at» «long_value» fields table «escape_at» «escape_label» «edge_codes» counting ranking in
+        Rest named classes names objects
+        (builtSays v) (entry targets) (entry labels) (entry «weak_from») (entry «weak_to») (entry «roots_out») (entry working) (entry account) room
+        (builtSays r) (exit targets) (exit labels) (exit «weak_from») (exit «weak_to») (exit «roots_out») (exit working) (exit account) left) ⌝ }
 {
     let r = code_used(
         v,
@@ -200,7 +212,15 @@ fn hinted_copied(
     counting: &mut [u64],
     ranking: &mut [u64],
 ) -> Built
-    ensures { λ r. ⌜ leftOf (builtSays r) (now (targets .exit)) (now (labels .exit)) (now («weak_from» .exit)) (now («weak_to» .exit)) (now («roots_out» .exit)) (now (working .exit)) (codedOf (now (bases .exit)) (now (short .exit)) (now («long_at» .exit)) (now («long_value» .exit)) (now (fields .exit)) (now (table .exit)) (now («escape_at» .exit)) (now («escape_label» .exit)) (now («edge_codes» .exit)) (now (counting .exit)) (now (ranking .exit))) (now (account .exit)) ≡ buildLeft (copiedInput (now (ids .entry)) (now (kinds .entry)) (now (classes .entry)) (now (lengths .entry)) (now («class_ids» .entry)) (now (loaders .entry)) (now (dumped .entry)) (now («class_kinds» .entry)) (now («slot_starts» .entry)) (now («slot_ends» .entry)) (now («static_starts» .entry)) (now («static_ends» .entry)) (now («slot_offsets» .entry)) (now («slot_labels» .entry)) (now («slot_weak» .entry)) (now («static_names» .entry)) (now («static_types» .entry)) (now («static_values» .entry)) names (now (codes .entry)) (now («escape_places» .entry)) (now («escape_ids» .entry)) base (now (starts .entry)) (now (roots .entry)) policy) (roomsOf (length (now (targets .entry))) (length (now (labels .entry))) (length (now («weak_from» .entry))) (length (now («weak_to» .entry))) (length (now («roots_out» .entry))) (length (now (working .entry))) (lentOf (length (now (bases .entry))) (length (now (short .entry))) (length (now («long_at» .entry))) (length (now («long_value» .entry))) (length (now (fields .entry))) (length (now (table .entry))) (length (now («escape_at» .entry))) (length (now («escape_label» .entry))) (length (now («edge_codes» .entry))) (length (now (counting .entry))) (length (now (ranking .entry))))) ⌝ }
+    ensures { λ r. ⌜ (
+        let schema = schemaOf (classTable entry «class_ids» loaders dumped «class_kinds» «slot_starts» «slot_ends» «static_starts» «static_ends»)
+        (slotTable entry «slot_offsets» «slot_labels» «slot_weak») (staticTable entry «static_names» «static_types» «static_values») names in
+        let route = copiedRoute entry codes «escape_places» «escape_ids» base starts in
+        let input = inputOf (objectTable entry ids kinds classes lengths) schema route (entry roots) policy in
+        let room = roomOf entry targets labels «weak_from» «weak_to» «roots_out» working
+        (codingRoom entry bases short «long_at» «long_value» fields table «escape_at» «escape_label» «edge_codes» counting ranking) in
+        let coded = codingLeft exit bases short «long_at» «long_value» fields table «escape_at» «escape_label» «edge_codes» counting ranking in
+        leftIn exit (builtSays r) targets labels «weak_from» «weak_to» «roots_out» working coded (exit account) ≡ buildLeft input room) ⌝ }
 {
     let v = build_edges::lay_copied(
         ids,
@@ -319,7 +339,15 @@ pub fn build_copied(
     counting: &mut [u64],
     ranking: &mut [u64],
 ) -> Built
-    ensures { λ r. ⌜ leftOf (builtSays r) (now (targets .exit)) (now (labels .exit)) (now («weak_from» .exit)) (now («weak_to» .exit)) (now («roots_out» .exit)) (now (working .exit)) (codedOf (now (bases .exit)) (now (short .exit)) (now («long_at» .exit)) (now («long_value» .exit)) (now (fields .exit)) (now (table .exit)) (now («escape_at» .exit)) (now («escape_label» .exit)) (now («edge_codes» .exit)) (now (counting .exit)) (now (ranking .exit))) (now (account .exit)) ≡ buildLeft (copiedInput (now (ids .entry)) (now (kinds .entry)) (now (classes .entry)) (now (lengths .entry)) (now («class_ids» .entry)) (now (loaders .entry)) (now (dumped .entry)) (now («class_kinds» .entry)) (now («slot_starts» .entry)) (now («slot_ends» .entry)) (now («static_starts» .entry)) (now («static_ends» .entry)) (now («slot_offsets» .entry)) (now («slot_labels» .entry)) (now («slot_weak» .entry)) (now («static_names» .entry)) (now («static_types» .entry)) (now («static_values» .entry)) names (now (codes .entry)) (now («escape_places» .entry)) (now («escape_ids» .entry)) base (now (starts .entry)) (now (roots .entry)) policy) (roomsOf (length (now (targets .entry))) (length (now (labels .entry))) (length (now («weak_from» .entry))) (length (now («weak_to» .entry))) (length (now («roots_out» .entry))) (length (now (working .entry))) (lentOf (length (now (bases .entry))) (length (now (short .entry))) (length (now («long_at» .entry))) (length (now («long_value» .entry))) (length (now (fields .entry))) (length (now (table .entry))) (length (now («escape_at» .entry))) (length (now («escape_label» .entry))) (length (now («edge_codes» .entry))) (length (now (counting .entry))) (length (now (ranking .entry))))) ⌝ }
+    ensures { λ r. ⌜ (
+        let schema = schemaOf (classTable entry «class_ids» loaders dumped «class_kinds» «slot_starts» «slot_ends» «static_starts» «static_ends»)
+        (slotTable entry «slot_offsets» «slot_labels» «slot_weak») (staticTable entry «static_names» «static_types» «static_values») names in
+        let route = copiedRoute entry codes «escape_places» «escape_ids» base starts in
+        let input = inputOf (objectTable entry ids kinds classes lengths) schema route (entry roots) policy in
+        let room = roomOf entry targets labels «weak_from» «weak_to» «roots_out» working
+        (codingRoom entry bases short «long_at» «long_value» fields table «escape_at» «escape_label» «edge_codes» counting ranking) in
+        let coded = codingLeft exit bases short «long_at» «long_value» fields table «escape_at» «escape_label» «edge_codes» counting ranking in
+        leftIn exit (builtSays r) targets labels «weak_from» «weak_to» «roots_out» working coded (exit account) ≡ buildLeft input room) ⌝ }
 {
     lookup::hints::mark(ids, short);
     hinted_copied(
@@ -416,7 +444,15 @@ fn hinted_raw(
     counting: &mut [u64],
     ranking: &mut [u64],
 ) -> Built
-    ensures { λ r. ⌜ leftOf (builtSays r) (now (targets .exit)) (now (labels .exit)) (now («weak_from» .exit)) (now («weak_to» .exit)) (now («roots_out» .exit)) (now (working .exit)) (codedOf (now (bases .exit)) (now (short .exit)) (now («long_at» .exit)) (now («long_value» .exit)) (now (fields .exit)) (now (table .exit)) (now («escape_at» .exit)) (now («escape_label» .exit)) (now («edge_codes» .exit)) (now (counting .exit)) (now (ranking .exit))) (now (account .exit)) ≡ buildLeft (rawInput (now (ids .entry)) (now (kinds .entry)) (now (classes .entry)) (now (lengths .entry)) (now («class_ids» .entry)) (now (loaders .entry)) (now (dumped .entry)) (now («class_kinds» .entry)) (now («slot_starts» .entry)) (now («slot_ends» .entry)) (now («static_starts» .entry)) (now («static_ends» .entry)) (now («slot_offsets» .entry)) (now («slot_labels» .entry)) (now («slot_weak» .entry)) (now («static_names» .entry)) (now («static_types» .entry)) (now («static_values» .entry)) names (now (bytes .entry)) size (now (starts .entry)) (now (bodies .entry)) (now (roots .entry)) policy) (roomsOf (length (now (targets .entry))) (length (now (labels .entry))) (length (now («weak_from» .entry))) (length (now («weak_to» .entry))) (length (now («roots_out» .entry))) (length (now (working .entry))) (lentOf (length (now (bases .entry))) (length (now (short .entry))) (length (now («long_at» .entry))) (length (now («long_value» .entry))) (length (now (fields .entry))) (length (now (table .entry))) (length (now («escape_at» .entry))) (length (now («escape_label» .entry))) (length (now («edge_codes» .entry))) (length (now (counting .entry))) (length (now (ranking .entry))))) ⌝ }
+    ensures { λ r. ⌜ (
+        let schema = schemaOf (classTable entry «class_ids» loaders dumped «class_kinds» «slot_starts» «slot_ends» «static_starts» «static_ends»)
+        (slotTable entry «slot_offsets» «slot_labels» «slot_weak») (staticTable entry «static_names» «static_types» «static_values») names in
+        let route = rawRoute entry bytes size starts bodies in
+        let input = inputOf (objectTable entry ids kinds classes lengths) schema route (entry roots) policy in
+        let room = roomOf entry targets labels «weak_from» «weak_to» «roots_out» working
+        (codingRoom entry bases short «long_at» «long_value» fields table «escape_at» «escape_label» «edge_codes» counting ranking) in
+        let coded = codingLeft exit bases short «long_at» «long_value» fields table «escape_at» «escape_label» «edge_codes» counting ranking in
+        leftIn exit (builtSays r) targets labels «weak_from» «weak_to» «roots_out» working coded (exit account) ≡ buildLeft input room) ⌝ }
 {
     let v = build_edges::lay_raw(
         ids,
@@ -533,7 +569,15 @@ pub fn build_raw(
     counting: &mut [u64],
     ranking: &mut [u64],
 ) -> Built
-    ensures { λ r. ⌜ leftOf (builtSays r) (now (targets .exit)) (now (labels .exit)) (now («weak_from» .exit)) (now («weak_to» .exit)) (now («roots_out» .exit)) (now (working .exit)) (codedOf (now (bases .exit)) (now (short .exit)) (now («long_at» .exit)) (now («long_value» .exit)) (now (fields .exit)) (now (table .exit)) (now («escape_at» .exit)) (now («escape_label» .exit)) (now («edge_codes» .exit)) (now (counting .exit)) (now (ranking .exit))) (now (account .exit)) ≡ buildLeft (rawInput (now (ids .entry)) (now (kinds .entry)) (now (classes .entry)) (now (lengths .entry)) (now («class_ids» .entry)) (now (loaders .entry)) (now (dumped .entry)) (now («class_kinds» .entry)) (now («slot_starts» .entry)) (now («slot_ends» .entry)) (now («static_starts» .entry)) (now («static_ends» .entry)) (now («slot_offsets» .entry)) (now («slot_labels» .entry)) (now («slot_weak» .entry)) (now («static_names» .entry)) (now («static_types» .entry)) (now («static_values» .entry)) names (now (bytes .entry)) size (now (starts .entry)) (now (bodies .entry)) (now (roots .entry)) policy) (roomsOf (length (now (targets .entry))) (length (now (labels .entry))) (length (now («weak_from» .entry))) (length (now («weak_to» .entry))) (length (now («roots_out» .entry))) (length (now (working .entry))) (lentOf (length (now (bases .entry))) (length (now (short .entry))) (length (now («long_at» .entry))) (length (now («long_value» .entry))) (length (now (fields .entry))) (length (now (table .entry))) (length (now («escape_at» .entry))) (length (now («escape_label» .entry))) (length (now («edge_codes» .entry))) (length (now (counting .entry))) (length (now (ranking .entry))))) ⌝ }
+    ensures { λ r. ⌜ (
+        let schema = schemaOf (classTable entry «class_ids» loaders dumped «class_kinds» «slot_starts» «slot_ends» «static_starts» «static_ends»)
+        (slotTable entry «slot_offsets» «slot_labels» «slot_weak») (staticTable entry «static_names» «static_types» «static_values») names in
+        let route = rawRoute entry bytes size starts bodies in
+        let input = inputOf (objectTable entry ids kinds classes lengths) schema route (entry roots) policy in
+        let room = roomOf entry targets labels «weak_from» «weak_to» «roots_out» working
+        (codingRoom entry bases short «long_at» «long_value» fields table «escape_at» «escape_label» «edge_codes» counting ranking) in
+        let coded = codingLeft exit bases short «long_at» «long_value» fields table «escape_at» «escape_label» «edge_codes» counting ranking in
+        leftIn exit (builtSays r) targets labels «weak_from» «weak_to» «roots_out» working coded (exit account) ≡ buildLeft input room) ⌝ }
 {
     lookup::hints::mark(ids, short);
     hinted_raw(

@@ -30,7 +30,7 @@ use Rattle.need_roots.specs.Roots.{Collected}
 use Rattle.edge_append.specs.Object.{marked}
 use Rattle.edge_pass.specs.Stage.{Handed, Edged, edgesSaid}
 use Rattle.edge_pass.proofs.Accepted.{marks-tell}
-use Rattle.build_rooms.specs.Stages.{Early, early, shortEarly, roomSays, edgesSays}
+use Rattle.build_rooms.specs.Stages.{Early, early, shortEarly, roomSays, edgesSays, edgeSays, Laid}
 use Rattle.build_rooms.proofs.Fitting.{fits-need}
 use Rattle.build_rooms.proofs.Enough.{enough, room-accepts}
 use Rattle.build_rooms.proofs.Compose.{edge-said}
@@ -109,90 +109,105 @@ pub told-accepts : (x : Input) (p : ℕ) (c : List ℕ) → c ≡ firstOf (fault
 unfolding checkSays accepts
 told-accepts x p c e ok = rw (faults-refuse x .none-met (0 ∷ p ∷ []) (ap accepts (sym e) ∙ ok))
 
--- The first half, from what each stage says.
-module _
-    (x : Input) (b s : ℕ) {c : Checked} (v : Built) (p w n : ℕ) (ts₀ ls₀ fs₀ ws₀ rs₀ wk₀ : List ℕ) {wk₁ : List ℕ} (wk₂ rs : List ℕ)
-    (j : Tested x (min (length ts₀) (length ls₀)) (length wk₀) p c wk₁)
-    (weak : accepts (checkedSays c) ≡ true → Fits (min (length fs₀) (length ws₀)) (needWeak x) w) (rooted : accepts (checkedSays c) ≡ true → Collected (x .roots) (objectCount x) wk₁ rs₀ n wk₂ rs)
-    (kn : length wk₂ ≡ length wk₀) (rn : length rs ≡ length rs₀)
-    (rooms : builtSays v ≡ roomSays (checkedSays c) w n (objectCount x + 1) (early (length ts₀) (length ls₀) (length fs₀) (length ws₀) (length rs) b s (length wk₂)))
-  where
-    abbrev e : Early
-    e = early (length ts₀) (length ls₀) (length fs₀) (length ws₀) (length rs) b s (length wk₂)
+take-over : (xs d : List ℕ) → take (length xs) (over xs d) ≡ xs
+unfolding over
+take-over xs d = take-at xs (drop (length xs) d) (length xs) refl
 
-    abbrev says : List ℕ
-    says = checkedSays c
+-- What the stages before the pass say, one after the other: the checks tell a number of places and leave marks, weak pairs and roots are counted, and
+-- then there is room or not.
+pub record Staged (x : Input) (b s : ℕ) (v : Built) (ts₀ ls₀ fs₀ ws₀ rs₀ wk₀ wk₂ rs : List ℕ) : Type 0 where
+  pub check : Checked
+  pub told : ℕ
+  pub marks : List ℕ
+  pub pairs : ℕ
+  pub distinct : ℕ
+  pub tested : Tested x (min (length ts₀) (length ls₀)) (length wk₀) told check marks
+  pub weak : accepts (checkedSays check) ≡ true → Fits (min (length fs₀) (length ws₀)) (needWeak x) pairs
+  pub rooted : accepts (checkedSays check) ≡ true → Collected (x .roots) (objectCount x) marks rs₀ distinct wk₂ rs
+  pub working-kept : length wk₂ ≡ length wk₀
+  pub roots-kept : length rs ≡ length rs₀
+  pub rooms : builtSays v
+      ≡ roomSays (checkedSays check) pairs distinct (objectCount x + 1)
+      (early (length ts₀) (length ls₀) (length fs₀) (length ws₀) (length rs) b s (length wk₂))
 
-    passed : accepts (builtSays v) ≡ true → (accepts says ≡ true) × (shortEarly (says ! 1) w n (objectCount x + 1) e ≡ [])
-    passed h = room-accepts says w n (objectCount x + 1) e (ap accepts (sym rooms) ∙ h)
+-- The first half, from that.
+module _ {x : Input} {b s : ℕ} {v : Built} {ts₀ ls₀ fs₀ ws₀ rs₀ wk₀ wk₂ rs : List ℕ} (g : Staged x b s v ts₀ ls₀ fs₀ ws₀ rs₀ wk₀ wk₂ rs) where
+  abbrev e : Early
+  e = early (length ts₀) (length ls₀) (length fs₀) (length ws₀) (length rs) b s (length wk₂)
 
-    roots-are : accepts says ≡ true → n ≡ needRoots x
-    unfolding needRoots graph distinctRoots
-    roots-are ok = rooted ok .need
+  abbrev says : List ℕ
+  says = checkedSays (g .check)
 
-    accepted-input : accepts says ≡ true → accepts (checkSays x) ≡ true
-    accepted-input ok = told-accepts x p says (j .answer) ok
+  passed : accepts (builtSays v) ≡ true → (accepts says ≡ true) × (shortEarly (says ! 1) (g .pairs) (g .distinct) (objectCount x + 1) e ≡ [])
+  passed h = room-accepts says (g .pairs) (g .distinct) (objectCount x + 1) e (ap accepts (sym (g .rooms)) ∙ h)
 
-    -- what the pass is handed
-    pub handed : {a₁ : List (List ℕ)} → a₁ ≡ noAccount → accepts (builtSays v) ≡ true → Handed x (length ts₀) (length ls₀) (length fs₀) (length ws₀) wk₂ a₁
-    handed none h =
-        let ok = passed h .0 in
-        let room = enough (says ! 1) w n (objectCount x + 1) e (passed h .1) in
-        let is = told-places x p says (j .answer) ok in
-        let long : objectCount x < length wk₀ = omega (arith, room .working, kn) in
-        let left : wk₂ ≡ marksLeft x (length wk₀) = rooted ok .kept ∙ j .marks in
-        record {
-          accepted = accepted-input ok;
-          targets = fits-need _ (placeCount x) p (length ts₀) (j .fits ok) (omega arith) (rw is at room .targets);
-          labels = fits-need _ (placeCount x) p (length ls₀) (j .fits ok) (omega arith) (rw is at room .labels);
-          objects = fits-need _ (needWeak x) w (length fs₀) (weak ok) (omega arith) (room .weak-from);
-          weaks = fits-need _ (needWeak x) w (length ws₀) (weak ok) (omega arith) (room .weak-to);
-          offsets = omega (arith, room .working);
-          front = mark-front x (length wk₀) long (accepted-input ok) left;
-          marks = mark-told x (length wk₀) long (accepted-input ok) left;
-          nothing = none;
-        }
+  roots-are : accepts says ≡ true → g .distinct ≡ needRoots x
+  unfolding needRoots graph distinctRoots
+  roots-are ok = g .rooted ok .need
 
-    roots-laid : accepts (builtSays v) ≡ true → rs ≡ over (graph x .roots) rs₀
-    unfolding graph distinctRoots
-    roots-laid h =
-        let ok = passed h .0 in
-        let room = enough (says ! 1) w n (objectCount x + 1) e (passed h .1) in
-        rooted ok .front (omega (arith, room .working, ap length (rooted ok .kept))) (omega (arith, room .roots-out, rn, rooted ok .need))
+  accepted-input : accepts says ≡ true → accepts (checkSays x) ≡ true
+  accepted-input ok = told-accepts x (g .told) says (g .tested .answer) ok
 
-    -- the answer, and what is left
-    module _ {r : Built} {ts ls fs ws wk : List ℕ} {a : List (List ℕ)} (edged : Edged x v r ts₀ ls₀ fs₀ ws₀ wk₂ ts ls fs ws wk a) where
-      pass-answer : builtSays r ≡ edgesSays (builtSays v) (graph x)
-      unfolding edgesSays needRoots
-      pass-answer = ap builtSays (edged .answer) ∙ pass-said x v ∙ go (accepts (builtSays v)) refl
-        where
-          go : (t : Bool) → accepts (builtSays v) ≡ t
-              → cond (accepts (builtSays v)) (0 ∷ length (graph x .targets) ∷ length (graph x .weakFrom) ∷ builtSays v ! 3 ∷ builtSays v ! 4 ∷ builtSays v ! 5 ∷ builtSays v ! 6 ∷ graph x .dangling ∷ []) (builtSays v)
-              ≡ cond (accepts (builtSays v)) (plainCounts (graph x)) (builtSays v)
-          go true h =
-              let ok = passed h .0 in
-              let is = rooms ∙ room-done says w n (objectCount x + 1) e ok (passed h .1) in
-              rw (h, is, roots-are ok)
-          go false h = rw h
-
-      same-accepts : accepts (builtSays r) ≡ true → accepts (builtSays v) ≡ true
-      unfolding edgesSays
-      same-accepts h = go (accepts (builtSays v)) refl
-        where
-          go : (t : Bool) → accepts (builtSays v) ≡ t → accepts (builtSays v) ≡ true
-          go true q = q
-          go false q = absurd (true≢false (sym h ∙ ap accepts (pass-answer ∙ rw q) ∙ q))
-
-      pub half : Laying x b s r ts₀ ls₀ fs₀ ws₀ rs₀ wk₀ ts ls fs ws rs wk a
-      half = record {
-        answer = edge-said x (early (length ts₀) (length ls₀) (length fs₀) (length ws₀) (length rs₀) b s (length wk₀)) p w n (j .answer) (j .fits) weak roots-are (rooms ∙ rw (rn, kn)) pass-answer;
-        laid = record {
-          targets = λ h. edged .targets (same-accepts h);
-          labels = λ h. begins-over (graph x .labels) ls₀ (edged .labels (same-accepts h));
-          weak-from = λ h. edged .objects (same-accepts h);
-          weak-to = λ h. edged .weaks (same-accepts h);
-          roots = λ h. roots-laid (same-accepts h);
-          offsets = λ h. begins-over (graph x .offsets) wk₂ (edged .offsets (same-accepts h));
-          account = λ h. edged .account (same-accepts h);
-        };
+  -- what the pass is handed
+  pub handed : {a₁ : List (List ℕ)} → a₁ ≡ noAccount → accepts (builtSays v) ≡ true → Handed x (length ts₀) (length ls₀) (length fs₀) (length ws₀) wk₂ a₁
+  handed none h =
+      let ok = passed h .0 in
+      let room = enough (says ! 1) (g .pairs) (g .distinct) (objectCount x + 1) e (passed h .1) in
+      let is = told-places x (g .told) says (g .tested .answer) ok in
+      let long : objectCount x < length wk₀ = omega (arith, room .working, g .working-kept) in
+      let left : wk₂ ≡ marksLeft x (length wk₀) = g .rooted ok .kept ∙ g .tested .marks in
+      record {
+        accepted = accepted-input ok;
+        targets = fits-need _ (placeCount x) (g .told) (length ts₀) (g .tested .fits ok) (omega arith) (rw is at room .targets);
+        labels = fits-need _ (placeCount x) (g .told) (length ls₀) (g .tested .fits ok) (omega arith) (rw is at room .labels);
+        objects = fits-need _ (needWeak x) (g .pairs) (length fs₀) (g .weak ok) (omega arith) (room .weak-from);
+        weaks = fits-need _ (needWeak x) (g .pairs) (length ws₀) (g .weak ok) (omega arith) (room .weak-to);
+        offsets = omega (arith, room .working);
+        front = mark-front x (length wk₀) long (accepted-input ok) left;
+        marks = mark-told x (length wk₀) long (accepted-input ok) left;
+        nothing = none;
       }
+
+  roots-laid : accepts (builtSays v) ≡ true → rs ≡ over (graph x .roots) rs₀
+  unfolding graph distinctRoots
+  roots-laid h =
+      let ok = passed h .0 in
+      let room = enough (says ! 1) (g .pairs) (g .distinct) (objectCount x + 1) e (passed h .1) in
+      g .rooted ok .front (omega (arith, room .working, ap length (g .rooted ok .kept))) (omega (arith, room .roots-out, g .roots-kept, g .rooted ok .need))
+
+  -- the answer, and what is left
+  module _ {r : Built} {ts ls fs ws wk : List ℕ} {a : List (List ℕ)} (edged : Edged x v r ts₀ ls₀ fs₀ ws₀ wk₂ ts ls fs ws wk a) where
+    pass-answer : builtSays r ≡ edgesSays (builtSays v) (graph x)
+    unfolding edgesSays needRoots
+    pass-answer = ap builtSays (edged .answer) ∙ pass-said x v ∙ go (accepts (builtSays v)) refl
+      where
+        go : (t : Bool) → accepts (builtSays v) ≡ t
+            → cond (accepts (builtSays v)) (0 ∷ length (graph x .targets) ∷ length (graph x .weakFrom) ∷ builtSays v ! 3 ∷ builtSays v ! 4 ∷ builtSays v ! 5 ∷ builtSays v ! 6 ∷ graph x .dangling ∷ []) (builtSays v)
+            ≡ cond (accepts (builtSays v)) (plainCounts (graph x)) (builtSays v)
+        go true h =
+            let ok = passed h .0 in
+            let is = g .rooms ∙ room-done says (g .pairs) (g .distinct) (objectCount x + 1) e ok (passed h .1) in
+            rw (h, is, roots-are ok)
+        go false h = rw h
+
+    same-accepts : accepts (builtSays r) ≡ true → accepts (builtSays v) ≡ true
+    unfolding edgesSays
+    same-accepts h = go (accepts (builtSays v)) refl
+      where
+        go : (t : Bool) → accepts (builtSays v) ≡ t → accepts (builtSays v) ≡ true
+        go true q = q
+        go false q = absurd (true≢false (sym h ∙ ap accepts (pass-answer ∙ rw q) ∙ q))
+
+    pub half : Laying x b s r ts₀ ls₀ fs₀ ws₀ rs₀ wk₀ ts ls fs ws rs wk a
+    half = record {
+      answer = edge-said x (early (length ts₀) (length ls₀) (length fs₀) (length ws₀) (length rs₀) b s (length wk₀)) (g .told) (g .pairs) (g .distinct) (g .tested .answer) (g .tested .fits) (g .weak) roots-are (g .rooms ∙ rw (g .roots-kept, g .working-kept)) pass-answer;
+      laid = record {
+        targets = λ h. edged .targets (same-accepts h);
+        labels = λ h. ap (take (length (graph x .labels))) (edged .labels (same-accepts h)) ∙ take-over (graph x .labels) ls₀;
+        weak-from = λ h. edged .objects (same-accepts h);
+        weak-to = λ h. edged .weaks (same-accepts h);
+        roots = λ h. roots-laid (same-accepts h);
+        offsets = λ h. ap (take (length (graph x .offsets))) (edged .offsets (same-accepts h)) ∙ take-over (graph x .offsets) wk₂;
+        account = λ h. edged .account (same-accepts h);
+      };
+    }

@@ -8,12 +8,14 @@ ghost use mathlib.Core.Bool.{true};
 ghost use Prim.Native.Nat.{_^_, _≤_, min};
 ghost use lib.ListN.{length};
 ghost use Rattle.columns.specs.Columns.{accepts};
+ghost use Rattle.columns.specs.Loans.{entry, exit};
 ghost use Rattle.index.specs.Copied.{idsOf};
 ghost use Rattle.rules.specs.Types.{checkedSays};
 ghost use Rattle.rules.specs.Account.{noAccount};
-ghost use Rattle.rules.specs.Needs.{Fits};
+ghost use Rattle.rules.specs.Tables.{objectTable, classTable, slotTable, staticTable, schemaOf, copiedRoute, rawRoute, inputOf};
 ghost use Rattle.need_roots.specs.Roots.{Below, ClassMarks, Collected};
 ghost use Rattle.need_weak.specs.Pairs.{copiedTotal, rawTotal};
+ghost use Rattle.rules.specs.Needs.{Fits};
 ghost use Rattle.check_input.specs.Flat.{copiedInput, rawInput};
 ghost use Rattle.build_edges.specs.Laying.{Laying, CopiedAsked, RawAsked};
 
@@ -43,7 +45,8 @@ fn roots_of(
     out: &mut [u32],
 ) -> usize
     requires { ⌜ (accepts (checkedSays c) ≡ true → Below objects (now roots) × (objects ≤ 2 ^ 32) × ClassMarks objects (now working)) ⌝ }
-    ensures { λ r. ⌜ (accepts (checkedSays c) ≡ true → Collected (now (roots .entry)) objects (now (working .entry)) (now (out .entry)) r (now (working .exit)) (now (out .exit))) ⌝ }
+    ensures { λ r. ⌜ (accepts (checkedSays c) ≡ true →
+        Collected (entry roots) objects (entry working) (entry out) r (exit working) (exit out)) ⌝ }
 {
     if !passed(c) {
         return 0;
@@ -70,8 +73,13 @@ fn weak_copied(
     weak_from: usize,
     weak_to: usize,
 ) -> usize
-    requires { ⌜ (accepts (checkedSays c) ≡ true → CopiedAsked (now ids) (now kinds) (now classes) (now starts) (now «class_kinds») (now «slot_starts») (now «slot_ends») (length (now «slot_weak»))) ⌝ }
-    ensures { λ r. ⌜ (accepts (checkedSays c) ≡ true → Fits (min «weak_from» «weak_to») (copiedTotal (now (ids .entry)) (now (kinds .entry)) (now (classes .entry)) (now (starts .entry)) (idsOf (now (codes .entry)) (now («escape_places» .entry)) (now («escape_ids» .entry)) base) (now («class_kinds» .entry)) (now («slot_starts» .entry)) (now («slot_ends» .entry)) (now («slot_weak» .entry)) policy (length (now (ids .entry)))) r) ⌝ }
+    requires { ⌜ (accepts (checkedSays c) ≡ true →
+        CopiedAsked (now ids) (now kinds) (now classes) (now starts) (now «class_kinds») (now «slot_starts») (now «slot_ends») (length (now «slot_weak»))) ⌝ }
+    ensures { λ r. ⌜ (
+        let held = idsOf (entry codes) (entry «escape_places») (entry «escape_ids») base in
+        let need = copiedTotal (entry ids) (entry kinds) (entry classes) (entry starts) held
+        (entry «class_kinds») (entry «slot_starts») (entry «slot_ends») (entry «slot_weak») policy (length (entry ids)) in
+        (accepts (checkedSays c) ≡ true → Fits (min «weak_from» «weak_to») need r)) ⌝ }
 {
     if !passed(c) {
         return 0;
@@ -124,8 +132,13 @@ fn weak_raw(
     weak_from: usize,
     weak_to: usize,
 ) -> usize
-    requires { ⌜ (accepts (checkedSays c) ≡ true → RawAsked (now ids) (now kinds) (now classes) (now starts) (now bodies) (length (now bytes)) size (now «class_kinds») (now «slot_starts») (now «slot_ends») (length (now «slot_offsets»)) (length (now «slot_weak»))) ⌝ }
-    ensures { λ r. ⌜ (accepts (checkedSays c) ≡ true → Fits (min «weak_from» «weak_to») (rawTotal (now (ids .entry)) (now (kinds .entry)) (now (classes .entry)) (now (starts .entry)) (now (bodies .entry)) (now (bytes .entry)) size (now («class_kinds» .entry)) (now («slot_starts» .entry)) (now («slot_ends» .entry)) (now («slot_offsets» .entry)) (now («slot_weak» .entry)) policy (length (now (ids .entry)))) r) ⌝ }
+    requires { ⌜ (accepts (checkedSays c) ≡ true →
+        RawAsked (now ids) (now kinds) (now classes) (now starts) (now bodies) (length (now bytes)) size
+        (now «class_kinds») (now «slot_starts») (now «slot_ends») (length (now «slot_offsets»)) (length (now «slot_weak»))) ⌝ }
+    ensures { λ r. ⌜ (
+        let need = rawTotal (entry ids) (entry kinds) (entry classes) (entry starts) (entry bodies) (entry bytes) size
+        (entry «class_kinds») (entry «slot_starts») (entry «slot_ends») (entry «slot_offsets») (entry «slot_weak») policy (length (entry ids)) in
+        (accepts (checkedSays c) ≡ true → Fits (min «weak_from» «weak_to») need r)) ⌝ }
 {
     if !passed(c) {
         return 0;
@@ -197,7 +210,14 @@ pub fn lay_copied(
     working: &mut [u64],
     account: &mut [[u64; 3]; 4],
 ) -> Built
-    ensures { λ r. ⌜ Laying (copiedInput (now (ids .entry)) (now (kinds .entry)) (now (classes .entry)) (now (lengths .entry)) (now («class_ids» .entry)) (now (loaders .entry)) (now (dumped .entry)) (now («class_kinds» .entry)) (now («slot_starts» .entry)) (now («slot_ends» .entry)) (now («static_starts» .entry)) (now («static_ends» .entry)) (now («slot_offsets» .entry)) (now («slot_labels» .entry)) (now («slot_weak» .entry)) (now («static_names» .entry)) (now («static_types» .entry)) (now («static_values» .entry)) names (now (codes .entry)) (now («escape_places» .entry)) (now («escape_ids» .entry)) base (now (starts .entry)) (now (roots .entry)) policy) bases (length (now (short .entry))) r (now (targets .entry)) (now (labels .entry)) (now («weak_from» .entry)) (now («weak_to» .entry)) (now («roots_out» .entry)) (now (working .entry)) (now (targets .exit)) (now (labels .exit)) (now («weak_from» .exit)) (now («weak_to» .exit)) (now («roots_out» .exit)) (now (working .exit)) (now (account .exit)) ⌝ }
+    ensures { λ r. ⌜ (
+        let schema = schemaOf (classTable entry «class_ids» loaders dumped «class_kinds» «slot_starts» «slot_ends» «static_starts» «static_ends»)
+        (slotTable entry «slot_offsets» «slot_labels» «slot_weak») (staticTable entry «static_names» «static_types» «static_values») names in
+        let route = copiedRoute entry codes «escape_places» «escape_ids» base starts in
+        let input = inputOf (objectTable entry ids kinds classes lengths) schema route (entry roots) policy in
+        Laying input bases (length (entry short)) r
+        (entry targets) (entry labels) (entry «weak_from») (entry «weak_to») (entry «roots_out») (entry working)
+        (exit targets) (exit labels) (exit «weak_from») (exit «weak_to») (exit «roots_out») (exit working) (exit account)) ⌝ }
 {
     let c = check_input::fit_copied(
         ids,
@@ -269,27 +289,22 @@ pub fn lay_copied(
         kinds,
         classes,
         lengths,
-        class_ids,
         loaders,
-        dumped,
         class_kinds,
         slot_starts,
         slot_ends,
         static_starts,
         static_ends,
-        slot_offsets,
         slot_labels,
         slot_weak,
         static_names,
         static_types,
         static_values,
-        names,
         codes,
         escape_places,
         escape_ids,
         base,
         starts,
-        roots,
         policy,
         short,
         working,
@@ -338,7 +353,14 @@ pub fn lay_raw(
     working: &mut [u64],
     account: &mut [[u64; 3]; 4],
 ) -> Built
-    ensures { λ r. ⌜ Laying (rawInput (now (ids .entry)) (now (kinds .entry)) (now (classes .entry)) (now (lengths .entry)) (now («class_ids» .entry)) (now (loaders .entry)) (now (dumped .entry)) (now («class_kinds» .entry)) (now («slot_starts» .entry)) (now («slot_ends» .entry)) (now («static_starts» .entry)) (now («static_ends» .entry)) (now («slot_offsets» .entry)) (now («slot_labels» .entry)) (now («slot_weak» .entry)) (now («static_names» .entry)) (now («static_types» .entry)) (now («static_values» .entry)) names (now (bytes .entry)) size (now (starts .entry)) (now (bodies .entry)) (now (roots .entry)) policy) bases (length (now (short .entry))) r (now (targets .entry)) (now (labels .entry)) (now («weak_from» .entry)) (now («weak_to» .entry)) (now («roots_out» .entry)) (now (working .entry)) (now (targets .exit)) (now (labels .exit)) (now («weak_from» .exit)) (now («weak_to» .exit)) (now («roots_out» .exit)) (now (working .exit)) (now (account .exit)) ⌝ }
+    ensures { λ r. ⌜ (
+        let schema = schemaOf (classTable entry «class_ids» loaders dumped «class_kinds» «slot_starts» «slot_ends» «static_starts» «static_ends»)
+        (slotTable entry «slot_offsets» «slot_labels» «slot_weak») (staticTable entry «static_names» «static_types» «static_values») names in
+        let route = rawRoute entry bytes size starts bodies in
+        let input = inputOf (objectTable entry ids kinds classes lengths) schema route (entry roots) policy in
+        Laying input bases (length (entry short)) r
+        (entry targets) (entry labels) (entry «weak_from») (entry «weak_to») (entry «roots_out») (entry working)
+        (exit targets) (exit labels) (exit «weak_from») (exit «weak_to») (exit «roots_out») (exit working) (exit account)) ⌝ }
 {
     let c = check_input::check_raw(
         ids,
@@ -408,9 +430,7 @@ pub fn lay_raw(
         kinds,
         classes,
         lengths,
-        class_ids,
         loaders,
-        dumped,
         class_kinds,
         slot_starts,
         slot_ends,
@@ -422,12 +442,10 @@ pub fn lay_raw(
         static_names,
         static_types,
         static_values,
-        names,
         bytes,
         size,
         starts,
         bodies,
-        roots,
         policy,
         short,
         working,

@@ -18,8 +18,8 @@ use Rattle.rules.specs.Edges.{Parts, graph, offset}
 use Rattle.rules.specs.Places.{placeCount}
 use Rattle.rules.specs.Account.{account, noAccount}
 use Rattle.rules.specs.Needs.{Rooms, Lent, buffer, needWeak, needRoots, needOffsets, needBases, shortLater, shortOfBuild, shortOfParts, Fits}
-use Rattle.rules.specs.Verdict.{firstOf, at, faults, counts, buildSays, plainCounts}
-use Rattle.rules.specs.Built.{CodedLeft, codedLeft, buildLeft}
+use Rattle.rules.specs.Verdict.{firstOf, at, faults, checkSays, counts, buildSays, plainCounts}
+use Rattle.rules.specs.Built.{CodedLeft, codedLeft, BuildLeft, buildLeft}
 use Rattle.rules.proofs.Acceptance.{Refuse, refuse-append, refuse-at, at-empty, Passed, passed, faults-refuse, build-says}
 use Rattle.rules.proofs.Finished.{weak-even}
 use Rattle.build_rooms.specs.Stages.{Early, earlyOf, shortEarly, roomSays, edgesSays, edgeSays, kept, Settled, leftOf, roomsOf, Laid}

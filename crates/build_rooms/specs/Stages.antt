@@ -4,7 +4,7 @@ use mathlib.Core.Path.{_≡_}
 use mathlib.Core.Bool.{true, cond}
 use mathlib.Core.List.{List, [], _∷_, _++_}
 use lib.Dec.{ltb}
-use lib.ListN.{getD}
+use lib.ListN.{length, getD}
 use Rattle.columns.specs.Lists.{_!_}
 use Rattle.columns.specs.Columns.{over, cleared, accepts, Begins}
 use Rattle.store.specs.Blocked.{blocksOf}
@@ -15,6 +15,7 @@ use Rattle.rules.specs.Account.{account, noAccount}
 use Rattle.rules.specs.Needs.{Lent, Rooms, buffer, needWeak, needRoots, needOffsets}
 use Rattle.rules.specs.Verdict.{firstOf, at, faults, plainCounts}
 use Rattle.rules.specs.Built.{CodedLeft, BuildLeft}
+unfoldable pub use Rattle.rules.specs.Needs.{Fits}
 
 -- the lengths of the columns of buffers 1 to 4
 pub record Early : Type 0 where

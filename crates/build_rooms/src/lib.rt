@@ -3,6 +3,7 @@ ghost use mathlib.Core.Path.{_≡_};
 ghost use Prim.Native.Nat.{_+_, _≤_, min};
 ghost use mathlib.Core.Bool.{cond};
 ghost use Rattle.rules.specs.Account.{noAccount};
+ghost use Rattle.columns.specs.Loans.{entry, exit};
 ghost use Rattle.rules.specs.Types.{checkedSays, builtSays};
 ghost use Rattle.build_rooms.specs.Stages.{early, firstShort, roomSays, kept, Settled};
 use rules::Built;
@@ -141,7 +142,7 @@ pub fn roots_kept(v: Built) -> usize
 
 // The account of a refused build is zero.
 fn settle_account(ok: bool, account: &mut [[u64; 3]; 4])
-    ensures { λ _. ⌜ now (account .exit) ≡ cond ok (now (account .entry)) noAccount ⌝ }
+    ensures { λ _. ⌜ exit account ≡ cond ok (entry account) noAccount ⌝ }
 {
     if ok {
         return;
@@ -157,11 +158,13 @@ pub fn settle(
     labels: &mut [u32],
     weak_from: &mut [u32],
     weak_to: &mut [u32],
-    roots: &mut [u32],
+    roots_out: &mut [u32],
     working: &mut [u64],
     account: &mut [[u64; 3]; 4],
 )
-    ensures { λ _. ⌜ Settled (builtSays v) (now (targets .entry)) (now (labels .entry)) (now («weak_from» .entry)) (now («weak_to» .entry)) (now (roots .entry)) (now (working .entry)) (now (account .entry)) (now (targets .exit)) (now (labels .exit)) (now («weak_from» .exit)) (now («weak_to» .exit)) (now (roots .exit)) (now (working .exit)) (now (account .exit)) ⌝ }
+    ensures { λ _. ⌜ Settled (builtSays v)
+        (entry targets) (entry labels) (entry «weak_from») (entry «weak_to») (entry «roots_out») (entry working) (entry account)
+        (exit targets) (exit labels) (exit «weak_from») (exit «weak_to») (exit «roots_out») (exit working) (exit account) ⌝ }
 {
     let edges = edges_kept(v);
     let weak = weak_kept(v);
@@ -171,7 +174,7 @@ pub fn settle(
     columns::zero_u32(weak_from, weak);
     columns::zero_u32(weak_to, weak);
     let kept = roots_kept(v);
-    columns::zero_u32(roots, kept);
+    columns::zero_u32(roots_out, kept);
     columns::zero_u64(working, 0);
     settle_account(ok, account);
 }

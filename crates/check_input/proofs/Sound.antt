@@ -11,11 +11,10 @@ use Rattle.columns.proofs.Tests.{append-empty, places-none}
 use Rattle.rules.specs.Input.{Input, Copied, Raw, Route.copied, Route.raw, objectCount, classCount, slotCount, elementCount}
 use Rattle.rules.specs.Verdict.{firstOf, at, once, badLengths, badLimit, badObject, badDumped, badCopied, badSpan}
 use Rattle.rules.specs.Places.{placeCount}
-use Rattle.rules.proofs.Acceptance.{Refuse, refuse-append, refuse-at, at-empty, once-empty, Sound, ids-rise, objects-few, classes-few, slots-ordered, slots-in, statics-ordered}
-use Rattle.rules.proofs.Acceptance.{statics-in, class-in, copied-span, codes-good}
+use Rattle.rules.proofs.Acceptance.{Refuse, refuse-append, refuse-at, at-empty, once-empty, Sound, ids-rise, objects-few, classes-few, slots-ordered, slots-in, statics-ordered, statics-in, class-in, copied-span, codes-good}
+use Rattle.check_ids.specs.Spans.{partOf, slotsOf}
+use Rattle.check_places.specs.Placing.{Ranges, ClassTables, PartTables, CodeTables, Stands, rawPlaces, copiedPlaces}
 use Rattle.rules.proofs.Even.{objects-even, copied-even, input-even}
-use Rattle.check_tables.specs.Spans.{partOf, slotsOf}
-use Rattle.check_places.specs.Placing.{ClassTables, PartTables, CodeTables, rawPlaces, copiedPlaces}
 use Rattle.check_places.proofs.Routes.{raw-placed, copied-placed}
 use Rattle.check_input.specs.Flat.{faultsLate, faultsBefore}
 use Rattle.check_input.proofs.Chain.{dumped-even, tables-even}

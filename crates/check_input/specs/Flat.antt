@@ -9,47 +9,67 @@ use Rattle.columns.specs.Columns.{zeros, accepts}
 use Rattle.rules.specs.declared.Checked.{Checked}
 use Rattle.rules.specs.Types.{checkedSays}
 use Rattle.rules.specs.declared.ReferencePolicy.{ReferencePolicy}
-use Rattle.rules.specs.Input.{Schema, Route, Route.copied, Route.raw, Input, objectCount, classCount}
+use Rattle.rules.specs.Input.{Schema, Route, Route.raw, Input, objectCount, classCount}
+use Rattle.rules.specs.Tables.{objectTable, classTable, slotTable, staticTable, copiedRoute, rawRoute, schemaOf, inputOf}
 use Rattle.rules.specs.Places.{placeCount}
 use Rattle.rules.specs.Verdict.{firstOf, at, once, badLengths, badLimit, badObject, badDumped, badCopied, badSpan, badRoot, overPlaces, faults, checkSays}
 use Rattle.rules.specs.Needs.{Fits}
 use Rattle.check_tables.specs.Found.{marksIf}
-use Rattle.check_tables.specs.Reads.{noPolicy, noRoute}
+use Rattle.check_tables.specs.Reads.{noSlots, noStatics, noPolicy, noRoute}
+use Rattle.build_rooms.specs.Stages.{Fits}
 use Rattle.check_tables.specs.Lengths.{schemaOf}
 
--- an input of the tables that both routes share
-abbrev tables : List ℕ → List ℕ → List ℕ → List ℕ → Schema → List ℕ → Route → ReferencePolicy → Input
-tables ids kinds classes lengths schema roots route policy = record {
-  objects = record { ids = ids; kinds = kinds; classes = classes; lengths = lengths };
-  schema = schema;
-  roots = roots;
-  route = route;
-  policy = policy;
-}
+-- Lists are read as they are.
+abbrev own : List ℕ → List ℕ
+own l = l
 
-abbrev pub copiedInput : List ℕ → List ℕ → List ℕ → List ℕ → List ℕ → List ℕ → List ℕ → List ℕ → List ℕ → List ℕ → List ℕ → List ℕ → List ℕ → List ℕ → List ℕ → List ℕ → List ℕ → List ℕ → ℕ → List ℕ → List ℕ → List ℕ → ℕ → List ℕ → List ℕ → ReferencePolicy → Input
-copiedInput ids kinds classes lengths classIds loaders dumped classKinds slotStart slotEnd staticStart staticEnd offsets labels weak staticNames types values names codes escapePlaces escapeIds base starts roots policy =
-    tables ids kinds classes lengths (schemaOf classIds loaders dumped classKinds slotStart slotEnd staticStart staticEnd offsets labels weak staticNames types values names)
-    roots (copied (record { ids = record { codes = codes; places = escapePlaces; ids = escapeIds; base = base }; starts = starts })) policy
-
-abbrev pub rawInput : List ℕ → List ℕ → List ℕ → List ℕ → List ℕ → List ℕ → List ℕ → List ℕ → List ℕ → List ℕ → List ℕ → List ℕ → List ℕ → List ℕ → List ℕ → List ℕ → List ℕ → List ℕ → ℕ → List ℕ → ℕ → List ℕ → List ℕ → List ℕ → ReferencePolicy → Input
-rawInput ids kinds classes lengths classIds loaders dumped classKinds slotStart slotEnd staticStart staticEnd offsets labels weak staticNames types values names bytes size starts bodies roots policy =
-    tables ids kinds classes lengths (schemaOf classIds loaders dumped classKinds slotStart slotEnd staticStart staticEnd offsets labels weak staticNames types values names)
-    roots (raw (record { bytes = bytes; size = size; starts = starts; lengths = bodies })) policy
+-- the lengths that the raw route's columns have, without the bytes
+abbrev pub bodiesOnly : List ℕ → List ℕ → Route
+bodiesOnly starts bodies = raw (record { bytes = []; size = 0; starts = starts; lengths = bodies })
 
 -- the columns of the class check with those about found objects
-abbrev pub dumpedColumns : List ℕ → List ℕ → List ℕ → List ℕ → List ℕ → List ℕ → List ℕ → List ℕ → List ℕ → List ℕ → List ℕ → List ℕ → List ℕ → List ℕ → ℕ → Input
+abbrev pub dumpedColumns : List ℕ → List ℕ → List ℕ → List ℕ → List ℕ → List ℕ → List ℕ → List ℕ → List ℕ → List ℕ → List ℕ → List ℕ
+    → List ℕ → List ℕ → ℕ → Input
 dumpedColumns ids kinds classIds dumped classKinds slotStart slotEnd staticStart staticEnd offsets labels weak staticNames types names =
-    tables ids kinds [] [] (schemaOf classIds [] dumped classKinds slotStart slotEnd staticStart staticEnd offsets labels weak staticNames types [] names) [] noRoute noPolicy
+    let schema =
+    schemaOf (classTable own classIds [] dumped classKinds slotStart slotEnd staticStart staticEnd) (slotTable own offsets labels weak)
+    (staticTable own staticNames types []) names in
+    inputOf (objectTable own ids kinds [] []) schema noRoute [] noPolicy
 
--- the columns of the checks of copied ids, parts and roots
+-- a schema of slot ranges alone, which is what the checks of copied ids, parts and roots read of it
+abbrev rangesOnly : List ℕ → List ℕ → Schema
+rangesOnly slotStart slotEnd = schemaOf (classTable own [] [] [] [] slotStart slotEnd [] []) noSlots noStatics 0
+
+-- the columns of those checks, on either route
 abbrev pub lateColumns : List ℕ → List ℕ → List ℕ → List ℕ → List ℕ → List ℕ → List ℕ → List ℕ → List ℕ → ℕ → List ℕ → List ℕ → Input
 lateColumns ids kinds classes lengths slotStart slotEnd codes escapePlaces escapeIds base starts roots =
-    copiedInput ids kinds classes lengths [] [] [] [] slotStart slotEnd [] [] [] [] [] [] [] [] 0 codes escapePlaces escapeIds base starts roots noPolicy
+    inputOf (objectTable own ids kinds classes lengths) (rangesOnly slotStart slotEnd) (copiedRoute own codes escapePlaces escapeIds base starts) roots noPolicy
 
 abbrev pub lateRaw : List ℕ → List ℕ → List ℕ → List ℕ → List ℕ → List ℕ → List ℕ → ℕ → Input
 lateRaw ids kinds lengths starts bodies bytes roots size =
-    rawInput ids kinds [] lengths [] [] [] [] [] [] [] [] [] [] [] [] [] [] 0 bytes size starts bodies roots noPolicy
+    inputOf (objectTable own ids kinds [] lengths) (rangesOnly [] []) (rawRoute own bytes size starts bodies) roots noPolicy
+
+-- Whole inputs from lists, for contracts that do not name them by table yet.
+abbrev flatSchema : List ℕ → List ℕ → List ℕ → List ℕ → List ℕ → List ℕ → List ℕ → List ℕ → List ℕ → List ℕ → List ℕ → List ℕ → List ℕ
+    → List ℕ → ℕ → Schema
+flatSchema classIds loaders dumped classKinds slotStart slotEnd staticStart staticEnd offsets labels weak staticNames types values names =
+    schemaOf (classTable own classIds loaders dumped classKinds slotStart slotEnd staticStart staticEnd)
+    (slotTable own offsets labels weak) (staticTable own staticNames types values) names
+
+abbrev pub copiedInput : List ℕ → List ℕ → List ℕ → List ℕ → List ℕ → List ℕ → List ℕ → List ℕ → List ℕ → List ℕ → List ℕ → List ℕ → List ℕ
+    → List ℕ → List ℕ → List ℕ → List ℕ → List ℕ → ℕ → List ℕ → List ℕ → List ℕ → ℕ → List ℕ → List ℕ → ReferencePolicy → Input
+copiedInput ids kinds classes lengths classIds loaders dumped classKinds slotStart slotEnd staticStart staticEnd offsets labels weak staticNames types values names codes escapePlaces
+    escapeIds base starts roots policy =
+    inputOf (objectTable own ids kinds classes lengths)
+    (flatSchema classIds loaders dumped classKinds slotStart slotEnd staticStart staticEnd offsets labels weak staticNames types values names)
+    (copiedRoute own codes escapePlaces escapeIds base starts) roots policy
+
+abbrev pub rawInput : List ℕ → List ℕ → List ℕ → List ℕ → List ℕ → List ℕ → List ℕ → List ℕ → List ℕ → List ℕ → List ℕ → List ℕ → List ℕ
+    → List ℕ → List ℕ → List ℕ → List ℕ → List ℕ → ℕ → List ℕ → ℕ → List ℕ → List ℕ → List ℕ → ReferencePolicy → Input
+rawInput ids kinds classes lengths classIds loaders dumped classKinds slotStart slotEnd staticStart staticEnd offsets labels weak staticNames types values names bytes size starts bodies roots policy =
+    inputOf (objectTable own ids kinds classes lengths)
+    (flatSchema classIds loaders dumped classKinds slotStart slotEnd staticStart staticEnd offsets labels weak staticNames types values names)
+    (rawRoute own bytes size starts bodies) roots policy
 
 -- The faults of copied ids, parts and roots; all faults in the order of refusal but PLACES, which is tested last, of an input that has none of these.
 unfoldable pub faultsLate : Input → List (List ℕ)

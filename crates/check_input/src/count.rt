@@ -4,8 +4,9 @@ ghost use mathlib.Core.Bool.{true, cond};
 ghost use lib.ListN.{length};
 ghost use Rattle.columns.specs.Lists.{_!_};
 ghost use Rattle.columns.specs.Columns.{zeros, accepts};
+ghost use Rattle.columns.specs.Loans.{entry, exit};
 ghost use Rattle.rules.specs.Types.{checkedSays};
-ghost use Rattle.check_tables.specs.Copying.{heldCodes};
+ghost use Rattle.check_ids.specs.Copying.{heldCodes};
 ghost use Rattle.check_places.specs.Placing.{ClassTables, PartTables, CodeTables, rawPlaces, copiedPlaces};
 ghost use Rattle.check_input.specs.Flat.{limitSays, countedSays, Counted, allowed};
 use rules::Checked;
@@ -43,7 +44,7 @@ pub(crate) fn accepted(c: Checked) -> bool
 
 // Marks are kept or cleared.
 pub(crate) fn settle(keep: bool, working: &mut [u64])
-    ensures { λ _. ⌜ now (working .exit) ≡ cond keep (now (working .entry)) (zeros (length (now (working .entry)))) ⌝ }
+    ensures { λ _. ⌜ exit working ≡ cond keep (entry working) (zeros (length (entry working))) ⌝ }
 {
     if keep {
         return;
@@ -75,8 +76,16 @@ pub(crate) fn count_copied(
     starts: &[u32],
     policy: ReferencePolicy,
 ) -> Checked
-    requires { ⌜ (accepts (checkedSays tested) ≡ true → (CodeTables (now kinds) (now classes) (now lengths) (now «class_kinds») (now «slot_starts») (now «slot_ends») (now «slot_weak») (now codes) (now starts)) × (ClassTables (now ids) (now «class_ids») (now loaders) (now dumped) (now «static_starts») (now «static_ends») (now «static_types») (now «static_values»)) × (checkedSays tested ! 1 ≡ heldCodes (now codes))) ⌝ }
-    ensures { λ r. ⌜ Counted (checkedSays tested) room (copiedPlaces (now (ids .entry)) (now (kinds .entry)) (now (classes .entry)) (now (lengths .entry)) (now («class_ids» .entry)) (now (loaders .entry)) (now (dumped .entry)) (now («class_kinds» .entry)) (now («slot_starts» .entry)) (now («slot_ends» .entry)) (now («static_starts» .entry)) (now («static_ends» .entry)) (now («slot_weak» .entry)) (now («static_types» .entry)) (now («static_values» .entry)) (now (codes .entry)) (now (starts .entry)) policy) (checkedSays r) ⌝ }
+    requires { ⌜ (accepts (checkedSays tested) ≡ true →
+        (CodeTables (now kinds) (now classes) (now lengths) (now «class_kinds») (now «slot_starts») (now «slot_ends») (now «slot_weak») (now codes) (now starts))
+        × (ClassTables (now ids) (now «class_ids») (now loaders) (now dumped) (now «static_starts») (now «static_ends») (now «static_types») (now «static_values»))
+        × (checkedSays tested ! 1 ≡ heldCodes (now codes))) ⌝ }
+    ensures { λ r. ⌜ (
+        let n = copiedPlaces (entry ids) (entry kinds) (entry classes) (entry lengths)
+        (entry «class_ids») (entry loaders) (entry dumped) (entry «class_kinds»)
+        (entry «slot_starts») (entry «slot_ends») (entry «static_starts») (entry «static_ends»)
+        (entry «slot_weak») (entry «static_types») (entry «static_values») (entry codes) (entry starts) policy in
+        Counted (checkedSays tested) room n (checkedSays r)) ⌝ }
 {
     match tested {
         Checked::Refused(why) => Checked::Refused(why),
@@ -122,8 +131,14 @@ pub(crate) fn count_raw(
     static_types: &[u8],
     static_values: &[u64],
 ) -> Checked
-    requires { ⌜ (accepts (checkedSays tested) ≡ true → (PartTables (now kinds) (now classes) (now lengths) (now «slot_starts») (now «slot_ends»)) × (ClassTables (now ids) (now «class_ids») (now loaders) (now dumped) (now «static_starts») (now «static_ends») (now «static_types») (now «static_values»))) ⌝ }
-    ensures { λ r. ⌜ checkedSays r ≡ countedSays (checkedSays tested) (rawPlaces (now (ids .entry)) (now (kinds .entry)) (now (classes .entry)) (now (lengths .entry)) (now («class_ids» .entry)) (now (loaders .entry)) (now (dumped .entry)) (now («slot_starts» .entry)) (now («slot_ends» .entry)) (now («static_starts» .entry)) (now («static_ends» .entry)) (now («static_types» .entry)) (now («static_values» .entry))) (rawPlaces (now (ids .entry)) (now (kinds .entry)) (now (classes .entry)) (now (lengths .entry)) (now («class_ids» .entry)) (now (loaders .entry)) (now (dumped .entry)) (now («slot_starts» .entry)) (now («slot_ends» .entry)) (now («static_starts» .entry)) (now («static_ends» .entry)) (now («static_types» .entry)) (now («static_values» .entry))) ⌝ }
+    requires { ⌜ (accepts (checkedSays tested) ≡ true →
+        (PartTables (now kinds) (now classes) (now lengths) (now «slot_starts») (now «slot_ends»))
+        × (ClassTables (now ids) (now «class_ids») (now loaders) (now dumped) (now «static_starts») (now «static_ends») (now «static_types») (now «static_values»))) ⌝ }
+    ensures { λ r. ⌜ (
+        let n = rawPlaces (entry ids) (entry kinds) (entry classes) (entry lengths)
+        (entry «class_ids») (entry loaders) (entry dumped) (entry «slot_starts») (entry «slot_ends») (entry «static_starts») (entry «static_ends»)
+        (entry «static_types») (entry «static_values») in
+        checkedSays r ≡ countedSays (checkedSays tested) n n) ⌝ }
 {
     match tested {
         Checked::Refused(why) => Checked::Refused(why),

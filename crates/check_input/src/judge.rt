@@ -4,12 +4,14 @@ ghost use mathlib.Core.List.{[], _∷_};
 ghost use lib.ListN.{length};
 ghost use mathlib.Core.Bool.{true};
 ghost use Rattle.columns.specs.Columns.{zeros, accepts};
+ghost use Rattle.columns.specs.Loans.{entry, exit};
 ghost use Rattle.rules.specs.Types.{checkedSays};
 ghost use Rattle.rules.specs.Verdict.{firstOf};
+ghost use Rattle.rules.specs.Tables.{objectTable, classTable, slotTable, staticTable, copiedRoute, rawRoute, schemaOf, inputOf};
 ghost use Rattle.check_tables.specs.Reads.{noPolicy};
-ghost use Rattle.check_tables.specs.Copying.{heldCodes};
+ghost use Rattle.check_ids.specs.Copying.{heldCodes};
 ghost use Rattle.check_tables.specs.Found.{marksIf, findColumns};
-ghost use Rattle.check_input.specs.Flat.{copiedInput, rawInput, faultsBefore};
+ghost use Rattle.check_input.specs.Flat.{faultsBefore};
 use crate::late;
 use crate::tables;
 use check_tables::lengths;
@@ -47,8 +49,13 @@ pub(crate) fn judge_copied(
     working: &mut [u64],
 ) -> Checked
     requires { ⌜ now working ≡ zeros (length (now working)) ⌝ }
-    ensures { λ r. ⌜ checkedSays r ≡ firstOf (faultsBefore (copiedInput (now (ids .entry)) (now (kinds .entry)) (now (classes .entry)) (now (lengths .entry)) (now («class_ids» .entry)) (now (loaders .entry)) (now (dumped .entry)) (now («class_kinds» .entry)) (now («slot_starts» .entry)) (now («slot_ends» .entry)) (now («static_starts» .entry)) (now («static_ends» .entry)) (now («slot_offsets» .entry)) (now («slot_labels» .entry)) (now («slot_weak» .entry)) (now («static_names» .entry)) (now («static_types» .entry)) (now («static_values» .entry)) names (now (codes .entry)) (now («escape_places» .entry)) (now («escape_ids» .entry)) base (now (starts .entry)) (now (roots .entry)) noPolicy)) (0 ∷ heldCodes (now (codes .entry)) ∷ []) ⌝ }
-    ensures { λ r. ⌜ (accepts (checkedSays r) ≡ true → now (working .exit) ≡ marksIf (findColumns (now (ids .entry)) (now (kinds .entry)) (now («class_ids» .entry)) (now (dumped .entry))) (length (now («class_ids» .entry))) (length (now (working .entry)))) ⌝ }
+    ensures { λ r. ⌜ (
+        let schema = schemaOf (classTable entry «class_ids» loaders dumped «class_kinds» «slot_starts» «slot_ends» «static_starts» «static_ends»)
+        (slotTable entry «slot_offsets» «slot_labels» «slot_weak») (staticTable entry «static_names» «static_types» «static_values») names in
+        let input = inputOf (objectTable entry ids kinds classes lengths) schema (copiedRoute entry codes «escape_places» «escape_ids» base starts) (entry roots) noPolicy in
+        checkedSays r ≡ firstOf (faultsBefore input) (0 ∷ heldCodes (entry codes) ∷ [])) ⌝ }
+    ensures { λ r. ⌜ (accepts (checkedSays r) ≡ true →
+        exit working ≡ marksIf (findColumns (entry ids) (entry kinds) (entry «class_ids») (entry dumped)) (length (entry «class_ids»)) (length (entry working))) ⌝ }
 {
     if tables::copied_lengths(
         ids,
@@ -155,8 +162,13 @@ pub(crate) fn judge_raw(
     working: &mut [u64],
 ) -> Checked
     requires { ⌜ now working ≡ zeros (length (now working)) ⌝ }
-    ensures { λ r. ⌜ checkedSays r ≡ firstOf (faultsBefore (rawInput (now (ids .entry)) (now (kinds .entry)) (now (classes .entry)) (now (lengths .entry)) (now («class_ids» .entry)) (now (loaders .entry)) (now (dumped .entry)) (now («class_kinds» .entry)) (now («slot_starts» .entry)) (now («slot_ends» .entry)) (now («static_starts» .entry)) (now («static_ends» .entry)) (now («slot_offsets» .entry)) (now («slot_labels» .entry)) (now («slot_weak» .entry)) (now («static_names» .entry)) (now («static_types» .entry)) (now («static_values» .entry)) names (now (bytes .entry)) size (now (starts .entry)) (now (bodies .entry)) (now (roots .entry)) noPolicy)) (0 ∷ 0 ∷ []) ⌝ }
-    ensures { λ r. ⌜ (accepts (checkedSays r) ≡ true → now (working .exit) ≡ marksIf (findColumns (now (ids .entry)) (now (kinds .entry)) (now («class_ids» .entry)) (now (dumped .entry))) (length (now («class_ids» .entry))) (length (now (working .entry)))) ⌝ }
+    ensures { λ r. ⌜ (
+        let schema = schemaOf (classTable entry «class_ids» loaders dumped «class_kinds» «slot_starts» «slot_ends» «static_starts» «static_ends»)
+        (slotTable entry «slot_offsets» «slot_labels» «slot_weak») (staticTable entry «static_names» «static_types» «static_values») names in
+        let input = inputOf (objectTable entry ids kinds classes lengths) schema (rawRoute entry bytes size starts bodies) (entry roots) noPolicy in
+        checkedSays r ≡ firstOf (faultsBefore input) (0 ∷ 0 ∷ [])) ⌝ }
+    ensures { λ r. ⌜ (accepts (checkedSays r) ≡ true →
+        exit working ≡ marksIf (findColumns (entry ids) (entry kinds) (entry «class_ids») (entry dumped)) (length (entry «class_ids»)) (length (entry working))) ⌝ }
 {
     if tables::raw_lengths(
         ids,

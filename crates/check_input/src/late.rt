@@ -3,14 +3,15 @@ ghost use mathlib.Core.Path.{_≡_};
 ghost use mathlib.Core.List.{[], _∷_};
 ghost use lib.ListN.{length};
 ghost use Prim.Native.Nat.{_≤_};
+ghost use Rattle.columns.specs.Loans.{entry};
 ghost use Rattle.rules.specs.Types.{checkedSays};
 ghost use Rattle.rules.specs.Verdict.{firstOf};
-ghost use Rattle.check_tables.specs.Copying.{heldCodes};
+ghost use Rattle.check_ids.specs.Copying.{heldCodes};
 ghost use Rattle.check_input.specs.Flat.{lateColumns, lateRaw, faultsLate};
-use check_tables::copied;
-use check_tables::copied::Tested;
+use check_ids::copied;
+use check_ids::copied::Tested;
+use check_ids::spans;
 use check_tables::objects;
-use check_tables::spans;
 use rules::Checked;
 use rules::Refusal;
 
@@ -35,7 +36,10 @@ pub(crate) fn judge_ids(
     requires { ⌜ length (now starts) ≡ length (now ids) ⌝ }
     requires { ⌜ length (now «slot_ends») ≡ length (now «slot_starts») ⌝ }
     requires { ⌜ length (now «escape_ids») ≡ length (now «escape_places») ⌝ }
-    ensures { λ r. ⌜ checkedSays r ≡ firstOf (faultsLate (lateColumns (now (ids .entry)) (now (kinds .entry)) (now (classes .entry)) (now (lengths .entry)) (now («slot_starts» .entry)) (now («slot_ends» .entry)) (now (codes .entry)) (now («escape_places» .entry)) (now («escape_ids» .entry)) base (now (starts .entry)) (now (roots .entry)))) (0 ∷ heldCodes (now (codes .entry)) ∷ []) ⌝ }
+    ensures { λ r. ⌜ (
+        let columns = lateColumns (entry ids) (entry kinds) (entry classes) (entry lengths) (entry «slot_starts») (entry «slot_ends»)
+        (entry codes) (entry «escape_places») (entry «escape_ids») base (entry starts) (entry roots) in
+        checkedSays r ≡ firstOf (faultsLate columns) (0 ∷ heldCodes (entry codes) ∷ [])) ⌝ }
 {
     match copied::first_copied(codes, escape_places, escape_ids, base) {
         Tested::At(p) => Checked::Refused(Refusal::Copied(p)),
@@ -77,7 +81,7 @@ pub(crate) fn judge_bodies(
     requires { ⌜ length (now starts) ≡ length (now ids) ⌝ }
     requires { ⌜ length (now bodies) ≡ length (now ids) ⌝ }
     requires { ⌜ size ≤ 8 ⌝ }
-    ensures { λ r. ⌜ checkedSays r ≡ firstOf (faultsLate (lateRaw (now (ids .entry)) (now (kinds .entry)) (now (lengths .entry)) (now (starts .entry)) (now (bodies .entry)) (now (bytes .entry)) (now (roots .entry)) size)) (0 ∷ 0 ∷ []) ⌝ }
+    ensures { λ r. ⌜ checkedSays r ≡ firstOf (faultsLate (lateRaw (entry ids) (entry kinds) (entry lengths) (entry starts) (entry bodies) (entry bytes) (entry roots) size)) (0 ∷ 0 ∷ []) ⌝ }
 {
     let o = spans::first_raw_span(kinds, lengths, starts, bodies, bytes, size);
     if o < ids.len() {

@@ -1,6 +1,8 @@
 // The input checks of document 01, put together: refusals 1 to 8 for both routes.
 ghost use lib.ListN.{length};
-ghost use Rattle.check_input.specs.Flat.{copiedInput, rawInput, Judged, Fitted};
+ghost use Rattle.columns.specs.Loans.{entry, exit};
+ghost use Rattle.rules.specs.Tables.{objectTable, classTable, slotTable, staticTable, copiedRoute, rawRoute, schemaOf, inputOf};
+ghost use Rattle.check_input.specs.Flat.{Judged, Fitted};
 use rules::Checked;
 use rules::ReferencePolicy;
 
@@ -41,7 +43,11 @@ pub fn fit_copied(
     room: usize,
     working: &mut [u64],
 ) -> Checked
-    ensures { λ r. ⌜ Fitted (copiedInput (now (ids .entry)) (now (kinds .entry)) (now (classes .entry)) (now (lengths .entry)) (now («class_ids» .entry)) (now (loaders .entry)) (now (dumped .entry)) (now («class_kinds» .entry)) (now («slot_starts» .entry)) (now («slot_ends» .entry)) (now («static_starts» .entry)) (now («static_ends» .entry)) (now («slot_offsets» .entry)) (now («slot_labels» .entry)) (now («slot_weak» .entry)) (now («static_names» .entry)) (now («static_types» .entry)) (now («static_values» .entry)) names (now (codes .entry)) (now («escape_places» .entry)) (now («escape_ids» .entry)) base (now (starts .entry)) (now (roots .entry)) policy) room (length (now (working .entry))) r (now (working .exit)) ⌝ }
+    ensures { λ r. ⌜ (
+        let schema = schemaOf (classTable entry «class_ids» loaders dumped «class_kinds» «slot_starts» «slot_ends» «static_starts» «static_ends»)
+        (slotTable entry «slot_offsets» «slot_labels» «slot_weak») (staticTable entry «static_names» «static_types» «static_values») names in
+        let input = inputOf (objectTable entry ids kinds classes lengths) schema (copiedRoute entry codes «escape_places» «escape_ids» base starts) (entry roots) policy in
+        Fitted input room (length (entry working)) r (exit working)) ⌝ }
 {
     columns::zero_u64(working, 0);
     let tested = judge::judge_copied(
@@ -128,7 +134,11 @@ pub fn check_copied(
     policy: ReferencePolicy,
     working: &mut [u64],
 ) -> Checked
-    ensures { λ r. ⌜ Judged (copiedInput (now (ids .entry)) (now (kinds .entry)) (now (classes .entry)) (now (lengths .entry)) (now («class_ids» .entry)) (now (loaders .entry)) (now (dumped .entry)) (now («class_kinds» .entry)) (now («slot_starts» .entry)) (now («slot_ends» .entry)) (now («static_starts» .entry)) (now («static_ends» .entry)) (now («slot_offsets» .entry)) (now («slot_labels» .entry)) (now («slot_weak» .entry)) (now («static_names» .entry)) (now («static_types» .entry)) (now («static_values» .entry)) names (now (codes .entry)) (now («escape_places» .entry)) (now («escape_ids» .entry)) base (now (starts .entry)) (now (roots .entry)) policy) (length (now (working .entry))) r (now (working .exit)) ⌝ }
+    ensures { λ r. ⌜ (
+        let schema = schemaOf (classTable entry «class_ids» loaders dumped «class_kinds» «slot_starts» «slot_ends» «static_starts» «static_ends»)
+        (slotTable entry «slot_offsets» «slot_labels» «slot_weak») (staticTable entry «static_names» «static_types» «static_values») names in
+        let input = inputOf (objectTable entry ids kinds classes lengths) schema (copiedRoute entry codes «escape_places» «escape_ids» base starts) (entry roots) policy in
+        Judged input (length (entry working)) r (exit working)) ⌝ }
 {
     fit_copied(
         ids,
@@ -191,7 +201,11 @@ pub fn check_raw(
     policy: ReferencePolicy,
     working: &mut [u64],
 ) -> Checked
-    ensures { λ r. ⌜ Judged (rawInput (now (ids .entry)) (now (kinds .entry)) (now (classes .entry)) (now (lengths .entry)) (now («class_ids» .entry)) (now (loaders .entry)) (now (dumped .entry)) (now («class_kinds» .entry)) (now («slot_starts» .entry)) (now («slot_ends» .entry)) (now («static_starts» .entry)) (now («static_ends» .entry)) (now («slot_offsets» .entry)) (now («slot_labels» .entry)) (now («slot_weak» .entry)) (now («static_names» .entry)) (now («static_types» .entry)) (now («static_values» .entry)) names (now (bytes .entry)) size (now (starts .entry)) (now (bodies .entry)) (now (roots .entry)) policy) (length (now (working .entry))) r (now (working .exit)) ⌝ }
+    ensures { λ r. ⌜ (
+        let schema = schemaOf (classTable entry «class_ids» loaders dumped «class_kinds» «slot_starts» «slot_ends» «static_starts» «static_ends»)
+        (slotTable entry «slot_offsets» «slot_labels» «slot_weak») (staticTable entry «static_names» «static_types» «static_values») names in
+        let input = inputOf (objectTable entry ids kinds classes lengths) schema (rawRoute entry bytes size starts bodies) (entry roots) policy in
+        Judged input (length (entry working)) r (exit working)) ⌝ }
 {
     columns::zero_u64(working, 0);
     let tested = judge::judge_raw(

@@ -5,10 +5,12 @@ ghost use lib.ListN.{length};
 ghost use Rattle.columns.specs.Lists.{firstPlace};
 ghost use Rattle.columns.specs.Columns.{zeros};
 ghost use Rattle.columns.specs.Ranks.{Rises};
+ghost use Rattle.columns.specs.Loans.{entry, exit};
+ghost use Rattle.rules.specs.Tables.{objectTable, classTable, slotTable, staticTable, copiedRoute, schemaOf, inputOf};
 ghost use Rattle.rules.specs.Verdict.{badLengths, badDumped, badFind};
 ghost use Rattle.check_tables.specs.Reads.{Tables, noPolicy};
 ghost use Rattle.check_tables.specs.Found.{marksIf, findColumns};
-ghost use Rattle.check_input.specs.Flat.{copiedInput, rawInput, dumpedColumns};
+ghost use Rattle.check_input.specs.Flat.{bodiesOnly, dumpedColumns};
 use check_tables::classes;
 use check_tables::found;
 use check_tables::lengths;
@@ -38,7 +40,11 @@ pub(crate) fn copied_lengths(
     escape_ids: &[u64],
     starts: &[u32],
 ) -> bool
-    ensures { λ r. ⌜ r ≡ badLengths (copiedInput (now (ids .entry)) (now (kinds .entry)) (now (classes .entry)) (now (lengths .entry)) (now («class_ids» .entry)) (now (loaders .entry)) (now (dumped .entry)) (now («class_kinds» .entry)) (now («slot_starts» .entry)) (now («slot_ends» .entry)) (now («static_starts» .entry)) (now («static_ends» .entry)) (now («slot_offsets» .entry)) (now («slot_labels» .entry)) (now («slot_weak» .entry)) (now («static_names» .entry)) (now («static_types» .entry)) (now («static_values» .entry)) 0 (now (codes .entry)) (now («escape_places» .entry)) (now («escape_ids» .entry)) 0 (now (starts .entry)) [] noPolicy) ⌝ }
+    ensures { λ r. ⌜ (
+        let schema = schemaOf (classTable entry «class_ids» loaders dumped «class_kinds» «slot_starts» «slot_ends» «static_starts» «static_ends»)
+        (slotTable entry «slot_offsets» «slot_labels» «slot_weak») (staticTable entry «static_names» «static_types» «static_values») 0 in
+        let input = inputOf (objectTable entry ids kinds classes lengths) schema (copiedRoute entry codes «escape_places» «escape_ids» 0 starts) [] noPolicy in
+        r ≡ badLengths input) ⌝ }
 {
     if lengths::differ3(ids.len(), kinds.len(), classes.len(), lengths.len()) {
         return true;
@@ -93,7 +99,11 @@ pub(crate) fn raw_lengths(
     starts: &[u64],
     bodies: &[u32],
 ) -> bool
-    ensures { λ r. ⌜ r ≡ badLengths (rawInput (now (ids .entry)) (now (kinds .entry)) (now (classes .entry)) (now (lengths .entry)) (now («class_ids» .entry)) (now (loaders .entry)) (now (dumped .entry)) (now («class_kinds» .entry)) (now («slot_starts» .entry)) (now («slot_ends» .entry)) (now («static_starts» .entry)) (now («static_ends» .entry)) (now («slot_offsets» .entry)) (now («slot_labels» .entry)) (now («slot_weak» .entry)) (now («static_names» .entry)) (now («static_types» .entry)) (now («static_values» .entry)) 0 [] 0 (now (starts .entry)) (now (bodies .entry)) [] noPolicy) ⌝ }
+    ensures { λ r. ⌜ (
+        let schema = schemaOf (classTable entry «class_ids» loaders dumped «class_kinds» «slot_starts» «slot_ends» «static_starts» «static_ends»)
+        (slotTable entry «slot_offsets» «slot_labels» «slot_weak») (staticTable entry «static_names» «static_types» «static_values») 0 in
+        let input = inputOf (objectTable entry ids kinds classes lengths) schema (bodiesOnly (entry starts) (entry bodies)) [] noPolicy in
+        r ≡ badLengths input) ⌝ }
 {
     if lengths::differ3(ids.len(), kinds.len(), classes.len(), lengths.len()) {
         return true;
@@ -145,9 +155,16 @@ pub(crate) fn first_dumped(
     requires { ⌜ length (now kinds) ≡ length (now ids) ⌝ }
     requires { ⌜ length (now dumped) ≡ length (now «class_ids») ⌝ }
     requires { ⌜ now working ≡ zeros (length (now working)) ⌝ }
-    requires { ⌜ Tables (now dumped) (now «class_kinds») (now «slot_starts») (now «slot_ends») (now «static_starts») (now «static_ends») (now «slot_offsets») (now «slot_labels») (now «slot_weak») (now «static_names») (now «static_types») ⌝ }
-    ensures { λ r. ⌜ r ≡ firstPlace (badDumped (dumpedColumns (now (ids .entry)) (now (kinds .entry)) (now («class_ids» .entry)) (now (dumped .entry)) (now («class_kinds» .entry)) (now («slot_starts» .entry)) (now («slot_ends» .entry)) (now («static_starts» .entry)) (now («static_ends» .entry)) (now («slot_offsets» .entry)) (now («slot_labels» .entry)) (now («slot_weak» .entry)) (now («static_names» .entry)) (now («static_types» .entry)) names)) (length (now («class_ids» .entry))) ⌝ }
-    ensures { λ _. ⌜ now (working .exit) ≡ marksIf (findColumns (now (ids .entry)) (now (kinds .entry)) (now («class_ids» .entry)) (now (dumped .entry))) (firstPlace (badFind (findColumns (now (ids .entry)) (now (kinds .entry)) (now («class_ids» .entry)) (now (dumped .entry)))) (length (now («class_ids» .entry)))) (length (now (working .entry))) ⌝ }
+    requires { ⌜ Tables (now dumped) (now «class_kinds») (now «slot_starts») (now «slot_ends») (now «static_starts») (now «static_ends»)
+        (now «slot_offsets») (now «slot_labels») (now «slot_weak») (now «static_names») (now «static_types») ⌝ }
+    ensures { λ r. ⌜ (
+        let columns = dumpedColumns (entry ids) (entry kinds)
+        (entry «class_ids») (entry dumped) (entry «class_kinds») (entry «slot_starts») (entry «slot_ends») (entry «static_starts») (entry «static_ends»)
+        (entry «slot_offsets») (entry «slot_labels») (entry «slot_weak») (entry «static_names») (entry «static_types») names in
+        r ≡ firstPlace (badDumped columns) (length (entry «class_ids»))) ⌝ }
+    ensures { λ _. ⌜ (
+        let columns = findColumns (entry ids) (entry kinds) (entry «class_ids») (entry dumped) in
+        exit working ≡ marksIf columns (firstPlace (badFind columns) (length (entry «class_ids»))) (length (entry working))) ⌝ }
 {
     let found = found::first_find(ids, kinds, class_ids, dumped, working);
     let class = classes::first_class(

@@ -1,12 +1,12 @@
 // Columns 2 and 3: the labels and the targets.
-use check_tables::copied::Fault;
+use check_ids::copied::Fault;
 use check_tables::objects;
 use rules::Label;
 ghost use mathlib.Core.Path.{_≡_};
 ghost use Prim.Native.Nat.{_-_};
 ghost use lib.ListN.{length, take};
 ghost use Rattle.columns.specs.Lists.{firstPlace};
-ghost use Rattle.check_tables.specs.Copying.{faultSays};
+ghost use Rattle.check_ids.specs.Copying.{faultSays};
 ghost use Rattle.labels.specs.Coding.{LaidOut};
 ghost use Rattle.rules.specs.Parts.{badLabel, badLabels, badTargets};
 ghost use Rattle.check_parts.specs.Checks.{labelFault};

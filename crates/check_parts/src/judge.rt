@@ -2,13 +2,14 @@
 use crate::edges;
 use crate::ends;
 use crate::offsets;
-use check_tables::copied::Fault;
+use check_ids::copied::Fault;
 use check_tables::objects;
 use rules::Checked;
 use rules::Refusal;
 ghost use mathlib.Core.Path.{_≡_};
 ghost use mathlib.Core.List.{[], _∷_};
 ghost use lib.ListN.{length};
+ghost use Rattle.columns.specs.Loans.{entry};
 ghost use Rattle.labels.specs.Coding.{LaidOut};
 ghost use Rattle.rules.specs.Types.{checkedSays};
 ghost use Rattle.rules.specs.Verdict.{firstOf};
@@ -30,7 +31,7 @@ fn judge_ends(
     roots: &[u32],
 ) -> Checked
     requires { ⌜ length (now «weak_to») ≡ length (now «weak_from») ⌝ }
-    ensures { λ r. ⌜ checkedSays r ≡ firstOf (endFaults objects (now («weak_from» .entry)) (now («weak_to» .entry)) (now (roots .entry))) (0 ∷ edges ∷ []) ⌝ }
+    ensures { λ r. ⌜ checkedSays r ≡ firstOf (endFaults objects (entry «weak_from») (entry «weak_to») (entry roots)) (0 ∷ edges ∷ []) ⌝ }
 {
     let i = ends::first_pair(weak_from, weak_to, objects);
     if i < weak_from.len() {
@@ -55,7 +56,9 @@ fn judge_edges(
 ) -> Checked
     requires { ⌜ LaidOut (now offsets) (length (now labels)) ⌝ }
     requires { ⌜ length (now «weak_to») ≡ length (now «weak_from») ⌝ }
-    ensures { λ r. ⌜ checkedSays r ≡ firstOf (edgeFaults names (handed (now (offsets .entry)) (now (targets .entry)) (now (labels .entry)) (now («weak_from» .entry)) (now («weak_to» .entry)) (now (roots .entry)))) (0 ∷ length (now (labels .entry)) ∷ []) ⌝ }
+    ensures { λ r. ⌜ (
+        let columns = handed (entry offsets) (entry targets) (entry labels) (entry «weak_from») (entry «weak_to») (entry roots) in
+        checkedSays r ≡ firstOf (edgeFaults names columns) (0 ∷ length (entry labels) ∷ [])) ⌝ }
 {
     let objects = offsets::object_count(offsets.len());
     match edges::first_label(names, offsets, labels) {
@@ -78,7 +81,9 @@ pub(crate) fn judge_parts(
     roots: &[u32],
 ) -> Checked
     requires { ⌜ length (now «weak_to») ≡ length (now «weak_from») ⌝ }
-    ensures { λ r. ⌜ checkedSays r ≡ firstOf (partsFaults names (handed (now (offsets .entry)) (now (targets .entry)) (now (labels .entry)) (now («weak_from» .entry)) (now («weak_to» .entry)) (now (roots .entry)))) (0 ∷ length (now (labels .entry)) ∷ []) ⌝ }
+    ensures { λ r. ⌜ (
+        let columns = handed (entry offsets) (entry targets) (entry labels) (entry «weak_from») (entry «weak_to») (entry roots) in
+        checkedSays r ≡ firstOf (partsFaults names columns) (0 ∷ length (entry labels) ∷ [])) ⌝ }
 {
     match offsets::first_offset(offsets, labels.len()) {
         Fault::At(p) => refused(1, p),

@@ -9,7 +9,8 @@ use check_tables::lengths;
 use rules::Checked;
 use rules::Refusal;
 ghost use mathlib.Core.Path.{_≡_};
-ghost use Rattle.check_tables.specs.Lengths.{schemaOf};
+ghost use Rattle.columns.specs.Loans.{entry};
+ghost use Rattle.rules.specs.Tables.{classTable, slotTable, staticTable, schemaOf};
 ghost use Rattle.rules.specs.Types.{checkedSays};
 ghost use Rattle.rules.specs.Parts.{handedSays};
 ghost use Rattle.check_parts.specs.Checks.{handed};
@@ -38,7 +39,11 @@ pub fn check_parts(
     weak_to: &[u32],
     roots: &[u32],
 ) -> Checked
-    ensures { λ r. ⌜ checkedSays r ≡ handedSays (schemaOf (now («class_ids» .entry)) (now (loaders .entry)) (now (dumped .entry)) (now («class_kinds» .entry)) (now («slot_starts» .entry)) (now («slot_ends» .entry)) (now («static_starts» .entry)) (now («static_ends» .entry)) (now («slot_offsets» .entry)) (now («slot_labels» .entry)) (now («slot_weak» .entry)) (now («static_names» .entry)) (now («static_types» .entry)) (now («static_values» .entry)) names) (handed (now (offsets .entry)) (now (targets .entry)) (now (labels .entry)) (now («weak_from» .entry)) (now («weak_to» .entry)) (now (roots .entry))) ⌝ }
+    ensures { λ r. ⌜ (
+        let schema = schemaOf (classTable entry «class_ids» loaders dumped «class_kinds» «slot_starts» «slot_ends» «static_starts» «static_ends»)
+        (slotTable entry «slot_offsets» «slot_labels» «slot_weak») (staticTable entry «static_names» «static_types» «static_values») names in
+        let columns = handed (entry offsets) (entry targets) (entry labels) (entry «weak_from») (entry «weak_to») (entry roots) in
+        checkedSays r ≡ handedSays schema columns) ⌝ }
 {
     if lengths::schema_lengths(
         class_ids,

@@ -1,10 +1,10 @@
 // Column 1: the offsets.
-use check_tables::copied::Fault;
+use check_ids::copied::Fault;
 ghost use mathlib.Core.Path.{_≡_};
 ghost use Prim.Native.Nat.{_-_, _<_};
 ghost use lib.ListN.{length, take};
 ghost use Rattle.columns.specs.Lists.{firstPlace};
-ghost use Rattle.check_tables.specs.Copying.{faultSays};
+ghost use Rattle.check_ids.specs.Copying.{faultSays};
 ghost use Rattle.rules.specs.Parts.{below, badOffsets};
 
 // How many objects an offset column has: an empty one has none.

@@ -13,9 +13,9 @@ use Rattle.columns.specs.Lists.{_!_, one, total, allOf, anyOf}
 use Rattle.columns.proofs.Sums.{total-ext, total-le, total-le-total, one-few}
 use Rattle.rules.specs.declared.ReferencePolicy.{ReferencePolicy}
 use Rattle.rules.specs.Types.{keeps}
-use Rattle.check_tables.specs.Copying.{heldCodes}
+use Rattle.check_ids.specs.Copying.{heldCodes}
 use Rattle.check_tables.specs.Found.{placeFor}
-use Rattle.check_tables.specs.Spans.{partOf, slotsOf}
+use Rattle.check_ids.specs.Spans.{partOf, slotsOf}
 use Rattle.check_places.specs.Placing.{partAt, slotHeld, slotAt, codeAt, objectPlaces, heldAt, isHeld, staticHeld, staticAt, classPlaces, copiedPlaces, codesIn, mostPlaces, CodeTables, PartsIn}
 
 -- the codes up to the end of a range: those before it, and its own

@@ -13,9 +13,9 @@ use Rattle.columns.proofs.Counts.{ones-few}
 use Rattle.rules.specs.declared.ReferencePolicy.{ReferencePolicy}
 use Rattle.rules.specs.Types.{keeps}
 use Rattle.check_tables.specs.Found.{placeFor}
-use Rattle.check_tables.specs.Spans.{partOf}
+use Rattle.check_ids.specs.Spans.{partOf}
 use Rattle.check_tables.proofs.Even.{two-first, two-second, two-none}
-use Rattle.check_tables.proofs.Parted.{part-array, slots-some}
+use Rattle.check_ids.proofs.Parted.{part-array, slots-some}
 use Rattle.check_places.specs.Placing.{slotHeld, slotAt, codeAt, objectPlaces, isHeld, staticHeld, staticAt, classPlaces, Stands}
 
 -- the second of two tests, where the first holds

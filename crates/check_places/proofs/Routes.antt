@@ -18,7 +18,7 @@ use Rattle.rules.specs.Input.{Input, Copied, Raw, Route.copied, Route.raw, obje
 use Rattle.rules.specs.Verdict.{badCode}
 use Rattle.rules.specs.Edges.{Ref, slotRef, elementRef}
 use Rattle.rules.specs.Places.{hasPlace, unread, placeCount}
-use Rattle.check_tables.specs.Spans.{partOf, slotsOf}
+use Rattle.check_ids.specs.Spans.{partOf, slotsOf}
 use Rattle.check_places.specs.Placing.{slotHeld, slotAt, codeAt, objectPlaces, classPlaces, rawPlaces, copiedPlaces}
 use Rattle.check_places.proofs.Placed.{everyOne, own, placed, all-placed}
 

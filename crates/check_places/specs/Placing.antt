@@ -1,4 +1,5 @@
--- Places, by the columns that counting them reads. Assumes nothing.
+-- Places, by the columns that counting them reads: `placeCount` of `rules/specs/Places.antt` restated on flat columns. Each comment names the law of
+-- `proofs/Routes.antt`, `proofs/Placed.antt` or `proofs/Bound.antt` that ties the two. Assumes nothing.
 use Prim.Native.Nat.{ℕ, _+_, _-_, _≤_, _<_}
 use mathlib.Core.Path.{_≡_}
 use mathlib.Core.Bool.{Bool, true, false, cond, not}
@@ -9,14 +10,15 @@ use Rattle.columns.specs.Lists.{_!_, one, total, find, found, allOf, anyOf}
 use Rattle.columns.specs.Ranks.{Rises}
 use Rattle.rules.specs.declared.ReferencePolicy.{ReferencePolicy}
 use Rattle.rules.specs.Types.{keeps}
-use Rattle.check_tables.specs.Spans.{partOf}
+use Rattle.check_ids.specs.Spans.{partOf}
 use Rattle.check_tables.specs.Found.{placeFor}
 
--- "Raw counts every slot, every element": an object's part
+-- "Raw counts every slot, every element": an object's part, the rules `slotCount` and `elementCount`, by the law `raw-own`
 abbrev pub partAt : List ℕ → List ℕ → List ℕ → List ℕ → List ℕ → ℕ → ℕ
 partAt kinds classes lengths slotStart slotEnd o = partOf (kinds ! o) (classes ! o) (lengths ! o) slotStart slotEnd
 
--- "Copied counts kept non-zero slots, non-zero elements": a code is 0 where the id is
+-- "Copied counts kept non-zero slots, non-zero elements": the rule `takes` of one slot (law `slot-one`) and of one element (law `element-one`);
+-- a code is 0 where the id is (law `code-zero`).
 unfoldable pub slotHeld : Bool → ℕ → ℕ → Bool
 slotHeld kept weak code = allOf (anyOf (not (eqb weak 1) ∷ kept ∷ []) ∷ not (eqb code 0) ∷ [])
 
@@ -26,6 +28,7 @@ slotAt codes weak kept start first k = one (slotHeld kept (weak ! (first + k)) (
 abbrev pub codeAt : List ℕ → ℕ → ℕ → ℕ
 codeAt codes start k = one (not (eqb (codes ! (start + k)) 0))
 
+-- The places of an object's own slots and elements in the rule `placesOf`: law `copied-own`.
 unfoldable pub objectPlaces : List ℕ → List ℕ → List ℕ → List ℕ → List ℕ → ReferencePolicy → ℕ → ℕ → ℕ → ℕ → ℕ
 objectPlaces classKinds slotStart slotEnd weak codes policy kind class len start =
     cond (eqb kind 0) (total (slotAt codes weak (keeps policy (classKinds ! class)) start (slotStart ! class)) (slotEnd ! class - slotStart ! class)) 0
@@ -35,7 +38,8 @@ abbrev pub heldAt : List ℕ → List ℕ → List ℕ → List ℕ → List ℕ
 heldAt kinds classes lengths classKinds slotStart slotEnd weak codes starts policy o =
     objectPlaces classKinds slotStart slotEnd weak codes policy (kinds ! o) (classes ! o) (lengths ! o) (starts ! o)
 
--- Raw counts "every object static and one loader per found class", copied "found statics and found loaders".
+-- Raw counts "every object static and one loader per found class", copied "found statics and found loaders": the rule `hasPlace`, by the laws
+-- `static-held` and `loader-held`.
 unfoldable pub isHeld : Bool → List ℕ → ℕ → Bool
 isHeld every ids id = anyOf (every ∷ allOf (not (eqb id 0) ∷ found (find ids id) ∷ []) ∷ [])
 
@@ -45,27 +49,31 @@ staticHeld every ids type value = allOf (eqb type 2 ∷ isHeld every ids value �
 abbrev pub staticAt : Bool → List ℕ → List ℕ → List ℕ → ℕ → ℕ → ℕ
 staticAt every ids types values from k = one (staticHeld every ids (types ! (from + k)) (values ! (from + k)))
 
--- those of class c, if it is found
+-- those of class c, if it is found: the rule `classRefs`, by the laws `static-sum` and `class-sum`
 unfoldable pub classPlaces : Bool → List ℕ → List ℕ → List ℕ → List ℕ → List ℕ → List ℕ → List ℕ → List ℕ → ℕ → ℕ
 classPlaces every ids classIds loaders dumped staticStart staticEnd types values c =
     cond (ltb (placeFor ids (classIds ! c) (dumped ! c)) (length ids))
     (total (staticAt every ids types values (staticStart ! c)) (staticEnd ! c - staticStart ! c) + one (isHeld every ids (loaders ! c))) 0
 
+-- The rule `placeCount` by the raw route, law `raw-placed`, and by the copied route, law `copied-placed`.
 unfoldable pub rawPlaces : List ℕ → List ℕ → List ℕ → List ℕ → List ℕ → List ℕ → List ℕ → List ℕ → List ℕ → List ℕ → List ℕ → List ℕ → List ℕ → ℕ
 rawPlaces ids kinds classes lengths classIds loaders dumped slotStart slotEnd staticStart staticEnd types values =
     total (partAt kinds classes lengths slotStart slotEnd) (length kinds)
     + total (classPlaces true ids classIds loaders dumped staticStart staticEnd types values) (length classIds)
 
-unfoldable pub copiedPlaces : List ℕ → List ℕ → List ℕ → List ℕ → List ℕ → List ℕ → List ℕ → List ℕ → List ℕ → List ℕ → List ℕ → List ℕ → List ℕ → List ℕ → List ℕ → List ℕ → List ℕ → ReferencePolicy → ℕ
+unfoldable pub copiedPlaces : List ℕ → List ℕ → List ℕ → List ℕ → List ℕ → List ℕ → List ℕ → List ℕ → List ℕ → List ℕ → List ℕ → List ℕ
+    → List ℕ → List ℕ → List ℕ → List ℕ → List ℕ → ReferencePolicy → ℕ
 copiedPlaces ids kinds classes lengths classIds loaders dumped classKinds slotStart slotEnd staticStart staticEnd weak types values codes starts policy =
     total (heldAt kinds classes lengths classKinds slotStart slotEnd weak codes starts policy) (length kinds)
     + total (classPlaces false ids classIds loaders dumped staticStart staticEnd types values) (length classIds)
 
--- No more than these: the codes that are not 0 of an object's part, and of each class that is found every object static and its loader.
+-- No more than these, which no rule names: the codes that are not 0 of an object's part, and of each class that is found every object static and its
+-- loader. The law `places-most` says that they bound `copiedPlaces`.
 abbrev pub codesIn : List ℕ → List ℕ → List ℕ → List ℕ → List ℕ → List ℕ → List ℕ → ℕ → ℕ
 codesIn kinds classes lengths slotStart slotEnd codes starts o = total (codeAt codes (starts ! o)) (partAt kinds classes lengths slotStart slotEnd o)
 
-unfoldable pub mostPlaces : List ℕ → List ℕ → List ℕ → List ℕ → List ℕ → List ℕ → List ℕ → List ℕ → List ℕ → List ℕ → List ℕ → List ℕ → List ℕ → List ℕ → List ℕ → ℕ
+unfoldable pub mostPlaces : List ℕ → List ℕ → List ℕ → List ℕ → List ℕ → List ℕ → List ℕ → List ℕ → List ℕ → List ℕ → List ℕ → List ℕ
+    → List ℕ → List ℕ → List ℕ → ℕ
 mostPlaces ids kinds classes lengths classIds loaders dumped slotStart slotEnd staticStart staticEnd types values codes starts =
     total (codesIn kinds classes lengths slotStart slotEnd codes starts) (length kinds)
     + total (classPlaces true ids classIds loaders dumped staticStart staticEnd types values) (length classIds)

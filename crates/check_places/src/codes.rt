@@ -5,6 +5,7 @@ ghost use Prim.Native.Nat.{_+_, _≤_, _<_};
 ghost use lib.Dec.{eqb};
 ghost use lib.ListN.{length};
 ghost use Rattle.columns.specs.Lists.{one, total};
+ghost use Rattle.columns.specs.Loans.{entry};
 ghost use Rattle.check_places.specs.Placing.{slotHeld, slotAt, codeAt, objectPlaces, heldAt, Stands, CodeTables};
 use rules::ReferencePolicy;
 
@@ -41,7 +42,7 @@ fn count_slots(
 ) -> u64
     requires { ⌜ start + n ≤ length (now codes) ⌝ }
     requires { ⌜ first + n ≤ length (now «slot_weak») ⌝ }
-    ensures { λ r. ⌜ r ≡ total (slotAt (now (codes .entry)) (now («slot_weak» .entry)) kept start first) n ⌝ }
+    ensures { λ r. ⌜ r ≡ total (slotAt (entry codes) (entry «slot_weak») kept start first) n ⌝ }
     ensures { λ r. ⌜ r ≤ n ⌝ }
 {
     let mut sum: u64 = 0;
@@ -56,7 +57,7 @@ fn count_slots(
 // The elements of an array, whose codes begin at `start`.
 fn count_codes(codes: &[u32], start: usize, n: usize) -> u64
     requires { ⌜ start + n ≤ length (now codes) ⌝ }
-    ensures { λ r. ⌜ r ≡ total (codeAt (now (codes .entry)) start) n ⌝ }
+    ensures { λ r. ⌜ r ≡ total (codeAt (entry codes) start) n ⌝ }
     ensures { λ r. ⌜ r ≤ n ⌝ }
 {
     let mut sum: u64 = 0;
@@ -82,7 +83,7 @@ fn object_places(
     start: u32,
 ) -> u64
     requires { ⌜ Stands (now «class_kinds») (now «slot_starts») (now «slot_ends») (now «slot_weak») (now codes) kind class len start ⌝ }
-    ensures { λ r. ⌜ r ≡ objectPlaces (now («class_kinds» .entry)) (now («slot_starts» .entry)) (now («slot_ends» .entry)) (now («slot_weak» .entry)) (now (codes .entry)) policy kind class len start ⌝ }
+    ensures { λ r. ⌜ r ≡ objectPlaces (entry «class_kinds») (entry «slot_starts») (entry «slot_ends») (entry «slot_weak») (entry codes) policy kind class len start ⌝ }
     ensures { λ r. ⌜ r ≤ 4294967295 ⌝ }
 {
     let at = columns::index(start);
@@ -113,7 +114,8 @@ pub(crate) fn count_objects(
     policy: ReferencePolicy,
 ) -> u64
     requires { ⌜ CodeTables (now kinds) (now classes) (now lengths) (now «class_kinds») (now «slot_starts») (now «slot_ends») (now «slot_weak») (now codes) (now starts) ⌝ }
-    ensures { λ r. ⌜ r ≡ total (heldAt (now (kinds .entry)) (now (classes .entry)) (now (lengths .entry)) (now («class_kinds» .entry)) (now («slot_starts» .entry)) (now («slot_ends» .entry)) (now («slot_weak» .entry)) (now (codes .entry)) (now (starts .entry)) policy) (length (now (kinds .entry))) ⌝ }
+    ensures { λ r. ⌜ r ≡ total (heldAt (entry kinds) (entry classes) (entry lengths) (entry «class_kinds») (entry «slot_starts») (entry «slot_ends»)
+        (entry «slot_weak») (entry codes) (entry starts) policy) (length (entry kinds)) ⌝ }
     ensures { λ r. ⌜ r ≤ 288230376151711744 ⌝ }
 {
     let mut sum: u64 = 0;

@@ -4,10 +4,11 @@ ghost use mathlib.Core.Bool.{true};
 ghost use Prim.Native.Nat.{_≤_};
 ghost use lib.ListN.{length};
 ghost use Rattle.columns.specs.Lists.{total};
-ghost use Rattle.check_tables.specs.Copying.{heldCodes};
+ghost use Rattle.columns.specs.Loans.{entry};
+ghost use Rattle.check_ids.specs.Copying.{heldCodes};
 ghost use Rattle.check_places.specs.Placing.{codesIn, mostPlaces, PartsIn, ClassTables};
 use crate::statics;
-use check_tables::spans;
+use check_ids::spans;
 
 // The objects' parts stand in the codes one behind the other: no code is in two of them, so that all parts hold no more than the codes do.
 fn in_order(
@@ -20,7 +21,8 @@ fn in_order(
     starts: &[u32],
 ) -> bool
     requires { ⌜ PartsIn (now kinds) (now classes) (now lengths) (now «slot_starts») (now «slot_ends») (now starts) (length (now codes)) ⌝ }
-    ensures { λ r. ⌜ (r ≡ true → total (codesIn (now (kinds .entry)) (now (classes .entry)) (now (lengths .entry)) (now («slot_starts» .entry)) (now («slot_ends» .entry)) (now (codes .entry)) (now (starts .entry))) (length (now (kinds .entry))) ≤ heldCodes (now (codes .entry))) ⌝ }
+    ensures { λ r. ⌜ (r ≡ true → total (codesIn (entry kinds) (entry classes) (entry lengths) (entry «slot_starts») (entry «slot_ends»)
+        (entry codes) (entry starts)) (length (entry kinds)) ≤ heldCodes (entry codes)) ⌝ }
 {
     let mut end = 0;
     let mut o = 0;
@@ -63,7 +65,9 @@ pub(crate) fn within(
     requires { ⌜ held ≡ heldCodes (now codes) ⌝ }
     requires { ⌜ PartsIn (now kinds) (now classes) (now lengths) (now «slot_starts») (now «slot_ends») (now starts) (length (now codes)) ⌝ }
     requires { ⌜ ClassTables (now ids) (now «class_ids») (now loaders) (now dumped) (now «static_starts») (now «static_ends») (now «static_types») (now «static_values») ⌝ }
-    ensures { λ r. ⌜ (r ≡ true → mostPlaces (now (ids .entry)) (now (kinds .entry)) (now (classes .entry)) (now (lengths .entry)) (now («class_ids» .entry)) (now (loaders .entry)) (now (dumped .entry)) (now («slot_starts» .entry)) (now («slot_ends» .entry)) (now («static_starts» .entry)) (now («static_ends» .entry)) (now («static_types» .entry)) (now («static_values» .entry)) (now (codes .entry)) (now (starts .entry)) ≤ room) ⌝ }
+    ensures { λ r. ⌜ (r ≡ true → mostPlaces (entry ids) (entry kinds) (entry classes) (entry lengths)
+        (entry «class_ids») (entry loaders) (entry dumped) (entry «slot_starts») (entry «slot_ends») (entry «static_starts») (entry «static_ends»)
+        (entry «static_types») (entry «static_values») (entry codes) (entry starts) ≤ room) ⌝ }
 {
     if room < held {
         return false;

@@ -3,8 +3,11 @@ ghost use mathlib.Core.Path.{_≡_};
 ghost use Prim.Native.Nat.{_≤_};
 ghost use lib.ListN.{length};
 ghost use Rattle.columns.specs.Lists.{total};
-ghost use Rattle.check_tables.specs.Copying.{heldCodes};
+ghost use Rattle.columns.specs.Loans.{entry};
+ghost use Rattle.check_ids.specs.Copying.{heldCodes};
 ghost use Rattle.check_places.specs.Placing.{partAt, PartTables, ClassTables, CodeTables, rawPlaces, copiedPlaces};
+ghost use Rattle.build_rooms.specs.Stages.{Fits};
+use check_ids::spans;
 ghost use Rattle.rules.specs.Needs.{Fits};
 use check_tables::spans;
 use rules::ReferencePolicy;
@@ -22,7 +25,7 @@ fn count_parts(
     slot_ends: &[u32],
 ) -> u64
     requires { ⌜ PartTables (now kinds) (now classes) (now lengths) (now «slot_starts») (now «slot_ends») ⌝ }
-    ensures { λ r. ⌜ r ≡ total (partAt (now (kinds .entry)) (now (classes .entry)) (now (lengths .entry)) (now («slot_starts» .entry)) (now («slot_ends» .entry))) (length (now (kinds .entry))) ⌝ }
+    ensures { λ r. ⌜ r ≡ total (partAt (entry kinds) (entry classes) (entry lengths) (entry «slot_starts») (entry «slot_ends»)) (length (entry kinds)) ⌝ }
     ensures { λ r. ⌜ r ≤ 288230376151711744 ⌝ }
 {
     let mut sum: u64 = 0;
@@ -53,7 +56,9 @@ pub fn raw_places(
 ) -> u64
     requires { ⌜ PartTables (now kinds) (now classes) (now lengths) (now «slot_starts») (now «slot_ends») ⌝ }
     requires { ⌜ ClassTables (now ids) (now «class_ids») (now loaders) (now dumped) (now «static_starts») (now «static_ends») (now «static_types») (now «static_values») ⌝ }
-    ensures { λ r. ⌜ r ≡ rawPlaces (now (ids .entry)) (now (kinds .entry)) (now (classes .entry)) (now (lengths .entry)) (now («class_ids» .entry)) (now (loaders .entry)) (now (dumped .entry)) (now («slot_starts» .entry)) (now («slot_ends» .entry)) (now («static_starts» .entry)) (now («static_ends» .entry)) (now («static_types» .entry)) (now («static_values» .entry)) ⌝ }
+    ensures { λ r. ⌜ r ≡ rawPlaces (entry ids) (entry kinds) (entry classes) (entry lengths)
+        (entry «class_ids») (entry loaders) (entry dumped) (entry «slot_starts») (entry «slot_ends») (entry «static_starts») (entry «static_ends»)
+        (entry «static_types») (entry «static_values») ⌝ }
 {
     let parts = count_parts(kinds, classes, lengths, slot_starts, slot_ends);
     let held = statics::count_classes(
@@ -93,7 +98,10 @@ pub fn copied_places(
 ) -> u64
     requires { ⌜ CodeTables (now kinds) (now classes) (now lengths) (now «class_kinds») (now «slot_starts») (now «slot_ends») (now «slot_weak») (now codes) (now starts) ⌝ }
     requires { ⌜ ClassTables (now ids) (now «class_ids») (now loaders) (now dumped) (now «static_starts») (now «static_ends») (now «static_types») (now «static_values») ⌝ }
-    ensures { λ r. ⌜ r ≡ copiedPlaces (now (ids .entry)) (now (kinds .entry)) (now (classes .entry)) (now (lengths .entry)) (now («class_ids» .entry)) (now (loaders .entry)) (now (dumped .entry)) (now («class_kinds» .entry)) (now («slot_starts» .entry)) (now («slot_ends» .entry)) (now («static_starts» .entry)) (now («static_ends» .entry)) (now («slot_weak» .entry)) (now («static_types» .entry)) (now («static_values» .entry)) (now (codes .entry)) (now (starts .entry)) policy ⌝ }
+    ensures { λ r. ⌜ r ≡ copiedPlaces (entry ids) (entry kinds) (entry classes) (entry lengths)
+        (entry «class_ids») (entry loaders) (entry dumped) (entry «class_kinds»)
+        (entry «slot_starts») (entry «slot_ends») (entry «static_starts») (entry «static_ends»)
+        (entry «slot_weak») (entry «static_types») (entry «static_values») (entry codes) (entry starts) policy ⌝ }
 {
     let own = codes::count_objects(
         kinds,
@@ -147,7 +155,12 @@ pub fn fit_places(
     requires { ⌜ held ≡ heldCodes (now codes) ⌝ }
     requires { ⌜ CodeTables (now kinds) (now classes) (now lengths) (now «class_kinds») (now «slot_starts») (now «slot_ends») (now «slot_weak») (now codes) (now starts) ⌝ }
     requires { ⌜ ClassTables (now ids) (now «class_ids») (now loaders) (now dumped) (now «static_starts») (now «static_ends») (now «static_types») (now «static_values») ⌝ }
-    ensures { λ r. ⌜ Fits room (copiedPlaces (now (ids .entry)) (now (kinds .entry)) (now (classes .entry)) (now (lengths .entry)) (now («class_ids» .entry)) (now (loaders .entry)) (now (dumped .entry)) (now («class_kinds» .entry)) (now («slot_starts» .entry)) (now («slot_ends» .entry)) (now («static_starts» .entry)) (now («static_ends» .entry)) (now («slot_weak» .entry)) (now («static_types» .entry)) (now («static_values» .entry)) (now (codes .entry)) (now (starts .entry)) policy) r ⌝ }
+    ensures { λ r. ⌜ (
+        let n = copiedPlaces (entry ids) (entry kinds) (entry classes) (entry lengths)
+        (entry «class_ids») (entry loaders) (entry dumped) (entry «class_kinds»)
+        (entry «slot_starts») (entry «slot_ends») (entry «static_starts») (entry «static_ends»)
+        (entry «slot_weak») (entry «static_types») (entry «static_values») (entry codes) (entry starts) policy in
+        Fits room n r) ⌝ }
 {
     if fit::within(
         held,

@@ -4,6 +4,7 @@ ghost use Prim.Native.Nat.{_-_, _≤_, _<_};
 ghost use lib.ListN.{length};
 ghost use Rattle.columns.specs.Lists.{one, total};
 ghost use Rattle.columns.specs.Ranks.{Rises};
+ghost use Rattle.columns.specs.Loans.{entry};
 ghost use Rattle.check_places.specs.Placing.{isHeld, staticHeld, staticAt, classPlaces, ClassTables};
 use check_tables::found;
 use lookup::Found;
@@ -11,7 +12,7 @@ use lookup::Found;
 // 1 for an id that has a place: a call in the place of a branch, so that the walk has one way on.
 fn one_held(ids: &[u64], id: u64, every: bool) -> u64
     requires { ⌜ Rises (now ids) ⌝ }
-    ensures { λ r. ⌜ r ≡ one (isHeld every (now (ids .entry)) id) ⌝ }
+    ensures { λ r. ⌜ r ≡ one (isHeld every (entry ids) id) ⌝ }
 {
     if every {
         return 1;
@@ -27,7 +28,7 @@ fn one_held(ids: &[u64], id: u64, every: bool) -> u64
 
 fn one_static(ids: &[u64], kind: u8, value: u64, every: bool) -> u64
     requires { ⌜ Rises (now ids) ⌝ }
-    ensures { λ r. ⌜ r ≡ one (staticHeld every (now (ids .entry)) kind value) ⌝ }
+    ensures { λ r. ⌜ r ≡ one (staticHeld every (entry ids) kind value) ⌝ }
 {
     if kind == 2 {
         return one_held(ids, value, every);
@@ -48,7 +49,7 @@ fn count_statics(
     requires { ⌜ length (now «static_values») ≡ length (now «static_types») ⌝ }
     requires { ⌜ from ≤ to ⌝ }
     requires { ⌜ to ≤ length (now «static_types») ⌝ }
-    ensures { λ r. ⌜ r ≡ total (staticAt every (now (ids .entry)) (now («static_types» .entry)) (now («static_values» .entry)) from) (to - from) ⌝ }
+    ensures { λ r. ⌜ r ≡ total (staticAt every (entry ids) (entry «static_types») (entry «static_values») from) (to - from) ⌝ }
 {
     let mut sum: u64 = 0;
     let mut i = from;
@@ -74,7 +75,8 @@ fn class_places(
 ) -> u64
     requires { ⌜ ClassTables (now ids) (now «class_ids») (now loaders) (now dumped) (now «static_starts») (now «static_ends») (now «static_types») (now «static_values») ⌝ }
     requires { ⌜ class < length (now «class_ids») ⌝ }
-    ensures { λ r. ⌜ r ≡ classPlaces every (now (ids .entry)) (now («class_ids» .entry)) (now (loaders .entry)) (now (dumped .entry)) (now («static_starts» .entry)) (now («static_ends» .entry)) (now («static_types» .entry)) (now («static_values» .entry)) class ⌝ }
+    ensures { λ r. ⌜ r ≡ classPlaces every (entry ids) (entry «class_ids») (entry loaders) (entry dumped) (entry «static_starts») (entry «static_ends»)
+        (entry «static_types») (entry «static_values») class ⌝ }
     ensures { λ r. ⌜ r ≤ 4294967296 ⌝ }
 {
     if found::place_for(ids, class_ids[class], dumped[class]) < ids.len() {
@@ -99,7 +101,8 @@ pub(crate) fn count_classes(
     every: bool,
 ) -> u64
     requires { ⌜ ClassTables (now ids) (now «class_ids») (now loaders) (now dumped) (now «static_starts») (now «static_ends») (now «static_types») (now «static_values») ⌝ }
-    ensures { λ r. ⌜ r ≡ total (classPlaces every (now (ids .entry)) (now («class_ids» .entry)) (now (loaders .entry)) (now (dumped .entry)) (now («static_starts» .entry)) (now («static_ends» .entry)) (now («static_types» .entry)) (now («static_values» .entry))) (length (now («class_ids» .entry))) ⌝ }
+    ensures { λ r. ⌜ r ≡ total (classPlaces every (entry ids) (entry «class_ids») (entry loaders) (entry dumped) (entry «static_starts») (entry «static_ends»)
+        (entry «static_types») (entry «static_values»)) (length (entry «class_ids»)) ⌝ }
     ensures { λ r. ⌜ r ≤ 288230376151711744 ⌝ }
 {
     let mut sum: u64 = 0;

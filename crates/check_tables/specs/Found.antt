@@ -1,4 +1,5 @@
--- The check of dumped classes that are found among the objects, and the marks that say which class is found where. Assumes nothing.
+-- The check of dumped classes that are found among the objects, and the marks that say which class is found where: `foundAt` and `badFind` of the rules
+-- restated by lookups and by marks. Each comment names the law of `proofs/Marks.antt` that ties the two. Assumes nothing.
 use Prim.Native.Nat.{ℕ, zero, suc, _+_}
 use mathlib.Core.Bool.{Bool, cond, not}
 use mathlib.Core.List.{List, [], _∷_}
@@ -24,7 +25,7 @@ findColumns ids kinds classIds dumped = record {
   policy = noPolicy;
 }
 
--- the object at which a dumped class is found, or the number of objects
+-- the object at which a dumped class is found (rule `foundAt`, laws `found-place`, `not-found`, `found-there`), or the number of objects
 unfoldable pub placeFor : List ℕ → ℕ → ℕ → ℕ
 placeFor ids id dumped = cond (eqb dumped 1) (orElse (length ids) (find ids id)) (length ids)
 
@@ -34,11 +35,11 @@ isDumped dumped a id = allOf (eqb dumped 1 ∷ eqb a id ∷ [])
 abbrev pub dumpedAt : List ℕ → List ℕ → ℕ → ℕ → Bool
 dumpedAt classIds dumped id b = isDumped (dumped ! b) (classIds ! b) id
 
--- a class found at o is at fault
+-- a class found at o is at fault: the rule `badFind`, by the law `find-fault`
 unfoldable pub findFault : Input → ℕ → ℕ → Bool
 findFault x o c = allOf (ltb o (objectCount x) ∷ anyOf (ltb (x .objects .kinds ! o) 3 ∷ any (foundAt x o) c ∷ []) ∷ [])
 
--- the same by marks, and the marks with one more
+-- the same by marks (law `tells`), and the marks with one more (law `marked-next`)
 unfoldable pub markFault : List ℕ → List ℕ → ℕ → Bool
 markFault kinds w o = allOf (ltb o (length kinds) ∷ anyOf (ltb (kinds ! o) 3 ∷ ltb 0 (w ! (o + 1)) ∷ []) ∷ [])
 

@@ -1,5 +1,3 @@
 pub mod Reads
-pub mod Copying
-pub mod Spans
 pub mod Lengths
 pub mod Found

@@ -1,4 +1,6 @@
--- Inputs of which only the columns that one check reads are given, for the contracts of the checks that read no others. Assumes nothing.
+-- Inputs of which only the columns that one check reads are given, for the contracts of the checks that read no others, and faults of
+-- `rules/specs/Verdict.antt` restated on the numbers that a check has read. Each comment names the rule and the law of `proofs/Faults.antt` that ties
+-- the two. Assumes nothing.
 use Prim.Native.Nat.{ℕ, _+_}
 use mathlib.Core.Path.{_≡_}
 use mathlib.Core.Bool.{Bool, false, not}
@@ -46,7 +48,7 @@ schemaColumns dumped kinds slotStart slotEnd staticStart staticEnd offsets label
   names = names;
 }
 
--- A fault of an object whose forerunner has the id `before`, 0 for the first.
+-- A fault of an object whose forerunner has the id `before`, 0 for the first: the rule `badObject`, by the law `object-fault`.
 unfoldable pub objectFault : ℕ → ℕ → ℕ → ℕ → ℕ → ℕ → Bool
 objectFault before id kind class len classes =
     anyOf
@@ -56,21 +58,23 @@ objectFault before id kind class len classes =
     ∷ allOf (eqb kind 1 ∷ ltb 268435456 len ∷ [])
     ∷ [])
 
--- The faults of a class's own numbers, of one slot where offsets from `low` on are in order, and of one static.
+-- The rule `badClass`: a class's own numbers are at fault (laws `row-hit` and `class-none`; where they are not, `row-ranges`),
 unfoldable pub rowFault : ℕ → ℕ → ℕ → ℕ → ℕ → ℕ → ℕ → ℕ → Bool
 rowFault dumped kind slotStart slotEnd staticStart staticEnd slots statics =
     anyOf (ltb 1 dumped ∷ ltb 4 kind ∷ ltb slotEnd slotStart ∷ ltb slots slotEnd ∷ ltb staticEnd staticStart ∷ ltb statics staticEnd ∷ [])
 
+-- or one slot, where offsets from `low` on are in order (rule `badSlot`, laws `slot-fault` and `slot-hit`),
 unfoldable pub slotFault : ℕ → ℕ → ℕ → ℕ → ℕ → Bool
 slotFault names label weak offset low = anyOf (leb names label ∷ ltb 1 weak ∷ ltb offset low ∷ [])
 
+-- or one static (rule `badStatic`, laws `static-faults` and `static-hit`), which stands k behind the first.
 unfoldable pub staticFault : ℕ → ℕ → ℕ → Bool
 staticFault names name type = anyOf (leb names name ∷ not (anyOf (eqb type 2 ∷ allOf (leb 4 type ∷ leb type 11 ∷ []) ∷ [])) ∷ [])
 
 abbrev pub staticAt : List ℕ → List ℕ → ℕ → ℕ → ℕ → Bool
 staticAt staticNames types names from k = staticFault names (staticNames ! (from + k)) (types ! (from + k))
 
--- The columns of each table are of one length.
+-- The columns of each table are of one length: the rule `schemaLengths` does not hold of them.
 pub record Tables (dumped kinds slotStart slotEnd staticStart staticEnd offsets labels weak staticNames types : List ℕ) : Type 0 where
   pub kinds-long : length kinds ≡ length dumped
   pub slot-starts-long : length slotStart ≡ length dumped

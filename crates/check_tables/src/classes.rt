@@ -3,6 +3,7 @@ ghost use mathlib.Core.Path.{_≡_};
 ghost use Prim.Native.Nat.{_-_, _≤_};
 ghost use lib.ListN.{length};
 ghost use Rattle.columns.specs.Lists.{any, firstPlace};
+ghost use Rattle.columns.specs.Loans.{entry};
 ghost use Rattle.rules.specs.Verdict.{badClass};
 ghost use Rattle.check_tables.specs.Reads.{rowFault, slotFault, staticFault, staticAt, schemaColumns, Tables};
 
@@ -82,7 +83,7 @@ fn statics_fault(
     to: usize,
 ) -> bool
     requires { ⌜ (from ≤ to) × (to ≤ length (now «static_names»)) × (length (now «static_types») ≡ length (now «static_names»)) ⌝ }
-    ensures { λ r. ⌜ r ≡ any (staticAt (now («static_names» .entry)) (now («static_types» .entry)) names from) (to - from) ⌝ }
+    ensures { λ r. ⌜ r ≡ any (staticAt (entry «static_names») (entry «static_types») names from) (to - from) ⌝ }
 {
     let mut i = from;
     while i < to {
@@ -109,8 +110,11 @@ pub fn first_class(
     static_types: &[u8],
     names: usize,
 ) -> usize
-    requires { ⌜ Tables (now dumped) (now kinds) (now «slot_starts») (now «slot_ends») (now «static_starts») (now «static_ends») (now «slot_offsets») (now «slot_labels») (now «slot_weak») (now «static_names») (now «static_types») ⌝ }
-    ensures { λ r. ⌜ r ≡ firstPlace (badClass (schemaColumns (now (dumped .entry)) (now (kinds .entry)) (now («slot_starts» .entry)) (now («slot_ends» .entry)) (now («static_starts» .entry)) (now («static_ends» .entry)) (now («slot_offsets» .entry)) (now («slot_labels» .entry)) (now («slot_weak» .entry)) (now («static_names» .entry)) (now («static_types» .entry)) names)) (length (now (dumped .entry))) ⌝ }
+    requires { ⌜ Tables (now dumped) (now kinds) (now «slot_starts») (now «slot_ends») (now «static_starts») (now «static_ends»)
+        (now «slot_offsets») (now «slot_labels») (now «slot_weak») (now «static_names») (now «static_types») ⌝ }
+    ensures { λ r. ⌜ r ≡ firstPlace (badClass (schemaColumns (entry dumped) (entry kinds)
+        (entry «slot_starts») (entry «slot_ends») (entry «static_starts») (entry «static_ends»)
+        (entry «slot_offsets») (entry «slot_labels») (entry «slot_weak») (entry «static_names») (entry «static_types») names)) (length (entry dumped)) ⌝ }
 {
     let mut class = 0;
     'check: loop {

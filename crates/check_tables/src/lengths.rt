@@ -2,8 +2,10 @@
 ghost use mathlib.Core.Path.{_≡_};
 ghost use mathlib.Core.List.{[], _∷_};
 ghost use lib.ListN.{length};
+ghost use Rattle.columns.specs.Loans.{entry};
 ghost use Rattle.rules.specs.Verdict.{differs, schemaLengths, badSize, limits};
-ghost use Rattle.check_tables.specs.Lengths.{schemaOf, sizeOnly};
+ghost use Rattle.rules.specs.Tables.{classTable, slotTable, staticTable, schemaOf};
+ghost use Rattle.check_tables.specs.Lengths.{sizeOnly, schemaOf};
 
 pub fn differ(n: usize, a: usize) -> bool
     ensures { λ r. ⌜ r ≡ differs n (a ∷ []) ⌝ }
@@ -58,7 +60,10 @@ pub fn schema_lengths(
     static_types: &[u8],
     static_values: &[u64],
 ) -> bool
-    ensures { λ r. ⌜ r ≡ schemaLengths (schemaOf (now («class_ids» .entry)) (now (loaders .entry)) (now (dumped .entry)) (now («class_kinds» .entry)) (now («slot_starts» .entry)) (now («slot_ends» .entry)) (now («static_starts» .entry)) (now («static_ends» .entry)) (now («slot_offsets» .entry)) (now («slot_labels» .entry)) (now («slot_weak» .entry)) (now («static_names» .entry)) (now («static_types» .entry)) (now («static_values» .entry)) 0) ⌝ }
+    ensures { λ r. ⌜ (
+        let schema = schemaOf (classTable entry «class_ids» loaders dumped «class_kinds» «slot_starts» «slot_ends» «static_starts» «static_ends»)
+        (slotTable entry «slot_offsets» «slot_labels» «slot_weak») (staticTable entry «static_names» «static_types» «static_values») 0 in
+        r ≡ schemaLengths schema) ⌝ }
 {
     let n = class_ids.len();
     if differ3(n, loaders.len(), dumped.len(), class_kinds.len()) {

@@ -1,7 +1,5 @@
-// The input checks of document 01, one by one; the crate `checks` puts them together.
+// The input checks of document 01 that read the tables, one by one; `check_ids` has those of the ids, and `check_input` puts all together.
 pub mod classes;
-pub mod copied;
 pub mod found;
 pub mod lengths;
 pub mod objects;
-pub mod spans;

@@ -2,6 +2,7 @@
 ghost use mathlib.Core.Path.{_≡_};
 ghost use lib.ListN.{length};
 ghost use Rattle.columns.specs.Lists.{firstPlace};
+ghost use Rattle.columns.specs.Loans.{entry};
 ghost use Rattle.rules.specs.Verdict.{badObject, badRoot};
 ghost use Rattle.check_tables.specs.Reads.{objectColumns, objectFault};
 
@@ -41,7 +42,7 @@ pub fn first_object(
     requires { ⌜ length (now kinds) ≡ length (now ids) ⌝ }
     requires { ⌜ length (now classes) ≡ length (now ids) ⌝ }
     requires { ⌜ length (now lengths) ≡ length (now ids) ⌝ }
-    ensures { λ r. ⌜ r ≡ firstPlace (badObject (objectColumns (now (ids .entry)) (now (kinds .entry)) (now (classes .entry)) (now (lengths .entry)) (now («class_ids» .entry)))) (length (now (ids .entry))) ⌝ }
+    ensures { λ r. ⌜ r ≡ firstPlace (badObject (objectColumns (entry ids) (entry kinds) (entry classes) (entry lengths) (entry «class_ids»))) (length (entry ids)) ⌝ }
 {
     let mut before = 0;
     let mut o = 0;
@@ -65,7 +66,7 @@ pub fn first_object(
 
 // The first root that is no object, or the number of roots.
 pub fn first_root(roots: &[u32], objects: usize) -> usize
-    ensures { λ r. ⌜ r ≡ firstPlace (badRoot objects (now (roots .entry))) (length (now (roots .entry))) ⌝ }
+    ensures { λ r. ⌜ r ≡ firstPlace (badRoot objects (entry roots)) (length (entry roots)) ⌝ }
 {
     let mut i = 0;
     while i < roots.len() {

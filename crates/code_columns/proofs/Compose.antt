@@ -17,12 +17,13 @@ use Rattle.columns.proofs.Tests.{none-of}
 use borrow.Author.Tests.{ltb-false}
 use Rattle.store.specs.Blocked.{Filled, blocked, blocksOf, longRows}
 use Rattle.rules.specs.Types.{LOADER}
+use Rattle.rules.specs.Tables.{codingLeft}
 use Rattle.rules.specs.Input.{Schema, classCount}
 use Rattle.rules.specs.Edges.{Parts}
 use Rattle.rules.specs.Labels.{named, fieldsOf, codeTable, codesFor, coded}
 use Rattle.rules.specs.Needs.{Lent, fieldsFor, labelColumns, needLong, needFields, needEscapes, shortLater, shortOfParts}
 use Rattle.rules.specs.Verdict.{firstOf, at, counts, plainCounts}
-use Rattle.rules.specs.Built.{codedLeft}
+use Rattle.rules.specs.Built.{CodedLeft, codedLeft}
 use Rattle.rules.proofs.Acceptance.{refuse-at}
 use Rattle.labels.specs.Coding.{LaidOut, TableOf, Laid, escapesIn}
 use Rattle.labels.specs.Fields.{Naming, namedBy}
@@ -31,9 +32,13 @@ use Rattle.labels.proofs.Codes.{all-length, all-coded, escapes-coded}
 use Rattle.labels.proofs.Listed.{named-by, fields-named}
 use Rattle.code_stages.specs.Stages.{handOn, labelRoom, spaceShort, Where, Ready, OffsetsReady, NamesReady, fieldsBy, escapesOf}
 use Rattle.code_stages.specs.Stages.{offsetsSays, OffsetsCoded, fieldsSays, spaceSays, FieldsWritten, codesSays, codesAll, CodesCoded}
-use Rattle.code_stages.specs.Settling.{leftOf, usedTo, Settled}
+use Rattle.code_stages.specs.Settling.{usedTo, Settled}
 use Rattle.code_columns.specs.Finished.{Coding, Hands, Finished}
 use Rattle.code_stages.proofs.Laws.{short-none, on-true, on-false, on-accepts, refused-never, label-refuses}
+
+-- the columns as they are left, in the order of the arguments
+abbrev codedOf : List ℕ → List ℕ → List ℕ → List ℕ → List ℕ → List ℕ → List ℕ → List ℕ → List ℕ → List ℕ → List ℕ → CodedLeft
+codedOf = codingLeft (λ (l : List ℕ). l)
 
 -- What each stage needs, of what the checks have found.
 pub ready-offsets : {g : Naming} {classes names : ℕ} {offsets labels : List ℕ} → Ready g classes names offsets labels → OffsetsReady offsets
@@ -138,7 +143,7 @@ module _ (says xs d₁ : List ℕ) {d : List ℕ} (m : ℕ) (len : length d₁ �
 
 -- columns that are equal one by one
 together : {b b′ s s′ a a′ v v′ f f′ t t′ i i′ j j′ c c′ u u′ k k′ : List ℕ} → b ≡ b′ → s ≡ s′ → a ≡ a′ → v ≡ v′ → f ≡ f′ → t ≡ t′ → i ≡ i′ → j ≡ j′
-    → c ≡ c′ → u ≡ u′ → k ≡ k′ → leftOf b s a v f t i j c u k ≡ leftOf b′ s′ a′ v′ f′ t′ i′ j′ c′ u′ k′
+    → c ≡ c′ → u ≡ u′ → k ≡ k′ → codedOf b s a v f t i j c u k ≡ codedOf b′ s′ a′ v′ f′ t′ i′ j′ c′ u′ k′
 together e1 e2 e3 e4 e5 e6 e7 e8 e9 e10 e11 = cc
 
 -- The answers of the stages, from the one before them.
@@ -256,11 +261,11 @@ module _ (s : Schema) (p : Parts) (l : Lent) (before : List ℕ) (told : Where b
       ∙ all-length (s .names) t1 (p .offsets) (p .labels) law m (omega (arith, law .some)) ∙ law .ends
 
   module _ {u1 k1 b h a v g t i j c u k : List ℕ}
-      (z : Settled says (s .names) (length (p .labels)) (leftOf b1 h1 a1 v1 f1 t1 i1 j1 c1 u1 k1) (leftOf b h a v g t i j c u k))
+      (z : Settled says (s .names) (length (p .labels)) (codedOf b1 h1 a1 v1 f1 t1 i1 j1 c1 u1 k1) (codedOf b h a v g t i j c u k))
       (nb : length b1 ≡ l .bases) (nh : length h1 ≡ l .short) (na : length a1 ≡ l .longAt) (nv : length v1 ≡ l .longValue) (nf : length f1 ≡ l .fields)
       (nt : length t1 ≡ l .table) (mi : length i1 ≡ l .escapeAt) (mj : length j1 ≡ l .escapeLabel) (mc : length c1 ≡ l .codes) (nu : length u1 ≡ l .counting)
       (nk : length k1 ≡ l .ranking) where
-    columns-are : leftOf b h a v g t i j c u k ≡ codedLeft says s p l
+    columns-are : codedOf b h a v g t i j c u k ≡ codedLeft says s p l
     unfolding codedLeft labelColumns coded counts needFields needEscapes
     columns-are =
         let x = blocked (p .offsets) in
@@ -279,7 +284,7 @@ module _ (s : Schema) (p : Parts) (l : Lent) (before : List ℕ) (told : Where b
         (z .counting ∙ cleared-all u1 ∙ ap (λ (n : ℕ). zeros n) nu)
         (z .ranking ∙ cleared-all k1 ∙ ap (λ (n : ℕ). zeros n) nk)
 
-    pub finished-parts : Finished s p before l says (leftOf b h a v g t i j c u k)
+    pub finished-parts : Finished s p before l says (codedOf b h a v g t i j c u k)
     finished-parts = record { answer = answer-is; columns = columns-are }
 
 -- the columns handed over are those of the schema and the plain columns
@@ -302,10 +307,10 @@ pub coded-whole : {g : Naming} {classes names : ℕ} {offsets labels before : Li
     → {c₀ i₀ j₀ says c1 i1 j1 : List ℕ} → CodesCoded s3 names t1 offsets labels c₀ i₀ j₀ says c1 i1 j1
     → length c₀ ≡ l .codes → length i₀ ≡ l .escapeAt → length j₀ ≡ l .escapeLabel
     → {u1 k1 b h a v m t i j c u k : List ℕ}
-    → Settled says names (length labels) (leftOf b1 h1 a1 v1 f1 t1 i1 j1 c1 u1 k1) (leftOf b h a v m t i j c u k)
+    → Settled says names (length labels) (codedOf b1 h1 a1 v1 f1 t1 i1 j1 c1 u1 k1) (codedOf b h a v m t i j c u k)
     → length b1 ≡ l .bases → length h1 ≡ l .short → length a1 ≡ l .longAt → length v1 ≡ l .longValue → length f1 ≡ l .fields → length t1 ≡ l .table
     → length i1 ≡ l .escapeAt → length j1 ≡ l .escapeLabel → length c1 ≡ l .codes → length u1 ≡ l .counting → length k1 ≡ l .ranking
-    → Coding g classes names offsets labels before l says (leftOf b h a v m t i j c u k)
+    → Coding g classes names offsets labels before l says (codedOf b h a v m t i j c u k)
 coded-whole l ready o f q w d nc ni nj z nb nh na nv nf nt mi mj mc nu nk s p hands =
     let e = sym (hands-fields hands) in
     let x = sym (hands .laid-out) in

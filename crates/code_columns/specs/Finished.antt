@@ -9,23 +9,6 @@ use Rattle.rules.specs.Verdict.{firstOf, at, counts, plainCounts}
 use Rattle.rules.specs.Built.{CodedLeft, codedLeft}
 use Rattle.labels.specs.Fields.{Naming, naming}
 use Rattle.code_stages.specs.Stages.{handOn, Where}
-pub use Rattle.code_stages.specs.Settling.{leftOf}
-
--- the lengths lent, in the order of the arguments
-abbrev pub lentOf : ℕ → ℕ → ℕ → ℕ → ℕ → ℕ → ℕ → ℕ → ℕ → ℕ → ℕ → Lent
-lentOf b s a v f t ea el c u k = record {
-  bases = b;
-  short = s;
-  longAt = a;
-  longValue = v;
-  fields = f;
-  table = t;
-  escapeAt = ea;
-  escapeLabel = el;
-  codes = c;
-  counting = u;
-  ranking = k;
-}
 
 abbrev pub namingOf : Schema → Naming
 namingOf s =

@@ -8,7 +8,7 @@ use lib.Dec.{ltb}
 use lib.ListN.{length, set, getD, take}
 use borrow.Author.Tests.{lt-ltb, le-ltb, ltb-false}
 use Rattle.columns.specs.Lists.{_!_, anyOf}
-use Rattle.columns.specs.Columns.{accepts, over, leaves}
+use Rattle.columns.specs.Columns.{accepts, over, leaves, Begins}
 use Rattle.columns.proofs.Parts.{never-falls}
 use Rattle.columns.proofs.Tests.{no-places, none-of, or-none, some-of}
 use Rattle.columns.proofs.Written.{begins-over}

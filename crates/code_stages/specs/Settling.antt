@@ -8,22 +8,6 @@ use Rattle.columns.specs.Lists.{_!_}
 use Rattle.columns.specs.Columns.{accepts, cleared}
 use Rattle.rules.specs.Built.{CodedLeft}
 
--- the columns as they are left, in the order of the arguments
-abbrev pub leftOf : List ℕ → List ℕ → List ℕ → List ℕ → List ℕ → List ℕ → List ℕ → List ℕ → List ℕ → List ℕ → List ℕ → CodedLeft
-leftOf b s a v f t ea el c u k = record {
-  bases = b;
-  short = s;
-  longAt = a;
-  longValue = v;
-  fields = f;
-  table = t;
-  escapeAt = ea;
-  escapeLabel = el;
-  codes = c;
-  counting = u;
-  ranking = k;
-}
-
 -- Where clearing starts: behind the used part where the answer accepts, else at the front.
 abbrev pub usedTo : List ℕ → ℕ → ℕ
 usedTo says n = cond (accepts says) n 0

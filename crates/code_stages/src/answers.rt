@@ -94,15 +94,15 @@ pub(crate) fn first_short(
     edges: usize,
     escape_at: usize,
     escape_label: usize,
-    codes: usize,
+    edge_codes: usize,
     last: usize,
 ) -> Built
-    ensures { λ r. ⌜ builtSays r ≡ labelRoom escapes edges «escape_at» «escape_label» codes (9 ∷ last ∷ []) ⌝ }
+    ensures { λ r. ⌜ builtSays r ≡ labelRoom escapes edges «escape_at» «escape_label» «edge_codes» (9 ∷ last ∷ []) ⌝ }
 {
     if is_short(escapes, escape_at, escape_label) {
         return room(7);
     }
-    if codes < edges {
+    if edge_codes < edges {
         return room(8);
     }
     room(last)

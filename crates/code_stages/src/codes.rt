@@ -6,19 +6,20 @@ use rules::Built;
 ghost use mathlib.Core.Path.{_≡_};
 ghost use lib.ListN.{length};
 ghost use Prim.Native.Nat.{_≤_};
+ghost use Rattle.columns.specs.Loans.{entry, exit};
 ghost use Rattle.rules.specs.Types.{builtSays};
 ghost use Rattle.labels.specs.Coding.{escapedTo};
 ghost use Rattle.code_stages.specs.Stages.{Where, CodesReady, CodesCoded};
 
 // How many of the first n codes are escaped: two bytes an edge.
-fn count_escaped(codes: &[u16], n: usize) -> usize
-    requires { ⌜ n ≤ length (now codes) ⌝ }
-    ensures { λ r. ⌜ r ≡ length (escapedTo (now (codes .entry)) n) ⌝ }
+fn count_escaped(edge_codes: &[u16], n: usize) -> usize
+    requires { ⌜ n ≤ length (now «edge_codes») ⌝ }
+    ensures { λ r. ⌜ r ≡ length (escapedTo (entry «edge_codes») n) ⌝ }
 {
     let mut rows = 0;
     let mut e = 0;
     while e < n {
-        if codes[e] % ELEMENT == ESCAPED {
+        if edge_codes[e] % ELEMENT == ESCAPED {
             rows += 1;
             e += 1;
         } else {
@@ -35,33 +36,35 @@ pub fn codes_stage(
     labels: &[u32],
     names: usize,
     table: &[u16],
-    codes: &mut [u16],
+    edge_codes: &mut [u16],
     escape_at: &mut [u64],
     escape_label: &mut [u32],
 ) -> Built
     requires { ⌜ Where (builtSays v) (CodesReady names (now table) (now offsets) (now labels)) ⌝ }
-    ensures { λ r. ⌜ CodesCoded (builtSays v) names (now (table .entry)) (now (offsets .entry)) (now (labels .entry)) (now (codes .entry)) (now («escape_at» .entry)) (now («escape_label» .entry)) (builtSays r) (now (codes .exit)) (now («escape_at» .exit)) (now («escape_label» .exit)) ⌝ }
+    ensures { λ r. ⌜ CodesCoded (builtSays v) names (entry table) (entry offsets) (entry labels)
+        (entry «edge_codes») (entry «escape_at») (entry «escape_label»)
+        (builtSays r) (exit «edge_codes») (exit «escape_at») (exit «escape_label») ⌝ }
 {
     let Built::Done(c) = v else {
         return v;
     };
     let edges = labels.len();
-    if codes.len() < edges {
+    if edge_codes.len() < edges {
         let rows = labels::code::count_escapes(offsets, labels, names, table);
         return answers::first_short(
             rows,
             edges,
             escape_at.len(),
             escape_label.len(),
-            codes.len(),
+            edge_codes.len(),
             8,
         );
     }
-    labels::code::code_objects(offsets, labels, names, table, codes);
-    let rows = count_escaped(codes, edges);
+    labels::code::code_objects(offsets, labels, names, table, edge_codes);
+    let rows = count_escaped(edge_codes, edges);
     if answers::is_short(rows, escape_at.len(), escape_label.len()) {
         return answers::room(7);
     }
-    labels::code::write_escapes(codes, labels, escape_at, escape_label);
+    labels::code::write_escapes(edge_codes, labels, escape_at, escape_label);
     answers::with_escapes(c, rows)
 }

@@ -4,11 +4,12 @@ use rules::Built;
 ghost use mathlib.Core.Path.{_≡_};
 ghost use lib.ListN.{length, take};
 ghost use Rattle.columns.specs.Columns.{over};
+ghost use Rattle.columns.specs.Loans.{entry, exit};
 ghost use Rattle.rules.specs.Labels.{codeTable};
 ghost use Rattle.labels.specs.Coding.{Room};
 ghost use Prim.Native.Nat.{_+_, _≤_};
 ghost use Rattle.rules.specs.Types.{builtSays};
-ghost use Rattle.labels.specs.Fields.{naming, Named};
+ghost use Rattle.labels.specs.Fields.{nameColumns, Named};
 ghost use Rattle.code_stages.specs.Stages.{Where, NamesReady, RankReady, fieldsBy, fieldsSays, FieldsWritten};
 
 // Whether buffer 6 has room. The code table serves as marks.
@@ -27,8 +28,12 @@ pub fn fields_room(
     fields: usize,
     table: &mut [u16],
 ) -> Built
-    requires { ⌜ Where (builtSays v) (NamesReady (naming (now «slot_starts») (now «slot_ends») (now «static_starts») (now «static_ends») (now «slot_labels») (now «static_names») (now «static_types»)) classes names) ⌝ }
-    ensures { λ r. ⌜ builtSays r ≡ fieldsSays (builtSays v) (length (fieldsBy (naming (now («slot_starts» .entry)) (now («slot_ends» .entry)) (now («static_starts» .entry)) (now («static_ends» .entry)) (now («slot_labels» .entry)) (now («static_names» .entry)) (now («static_types» .entry))) classes names (now (labels .entry)))) names fields (length (now (table .entry))) ⌝ }
+    requires { ⌜ (
+        let named = nameColumns now «slot_starts» «slot_ends» «static_starts» «static_ends» «slot_labels» «static_names» «static_types» in
+        Where (builtSays v) (NamesReady named classes names)) ⌝ }
+    ensures { λ r. ⌜ (
+        let named = nameColumns entry «slot_starts» «slot_ends» «static_starts» «static_ends» «slot_labels» «static_names» «static_types» in
+        builtSays r ≡ fieldsSays (builtSays v) (length (fieldsBy named classes names (entry labels))) names fields (length (entry table))) ⌝ }
 {
     let Built::Done(c) = v else {
         return v;
@@ -59,7 +64,7 @@ pub fn fields_room(
 pub(crate) fn write_table(fields: &[u32], n: usize, names: usize, table: &mut [u16])
     requires { ⌜ Room names (now table) × (n ≤ length (now fields)) × (n ≤ 32767) ⌝ }
     requires { ⌜ Named names (take n (now fields)) ⌝ }
-    ensures { λ _. ⌜ now (table .exit) ≡ over (codeTable names (take n (now (fields .entry)))) (now (table .entry)) ⌝ }
+    ensures { λ _. ⌜ exit table ≡ over (codeTable names (take n (entry fields))) (entry table) ⌝ }
 {
     labels::fields::write_table(&fields[0..n], names, table);
 }
@@ -82,8 +87,13 @@ pub fn write_fields(
     counting: &mut [u64],
     ranking: &mut [u64],
 )
-    requires { ⌜ Where (builtSays v) (RankReady (naming (now «slot_starts») (now «slot_ends») (now «static_starts») (now «static_ends») (now «slot_labels») (now «static_names») (now «static_types»)) classes names (now labels) (length (now fields)) (length (now table)) (length (now counting)) (length (now ranking))) ⌝ }
-    ensures { λ _. ⌜ Where (builtSays v) (FieldsWritten names (fieldsBy (naming (now («slot_starts» .entry)) (now («slot_ends» .entry)) (now («static_starts» .entry)) (now («static_ends» .entry)) (now («slot_labels» .entry)) (now («static_names» .entry)) (now («static_types» .entry))) classes names (now (labels .entry))) (now (fields .exit)) (now (table .exit))) ⌝ }
+    requires { ⌜ (
+        let named = nameColumns now «slot_starts» «slot_ends» «static_starts» «static_ends» «slot_labels» «static_names» «static_types» in
+        Where (builtSays v)
+        (RankReady named classes names (now labels) (length (now fields)) (length (now table)) (length (now counting)) (length (now ranking)))) ⌝ }
+    ensures { λ _. ⌜ (
+        let named = nameColumns entry «slot_starts» «slot_ends» «static_starts» «static_ends» «slot_labels» «static_names» «static_types» in
+        Where (builtSays v) (FieldsWritten names (fieldsBy named classes names (entry labels)) (exit fields) (exit table))) ⌝ }
 {
     if rules::accepted(v) {
         let n = labels::write_fields(

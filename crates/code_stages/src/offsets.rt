@@ -2,6 +2,7 @@
 use crate::answers;
 use rules::Built;
 ghost use lib.ListN.{length};
+ghost use Rattle.columns.specs.Loans.{entry, exit};
 ghost use Rattle.rules.specs.Types.{builtSays};
 ghost use Rattle.code_stages.specs.Stages.{Where, OffsetsReady, OffsetsCoded};
 
@@ -14,7 +15,9 @@ pub fn offsets_stage(
     long_value: &mut [u64],
 ) -> Built
     requires { ⌜ Where (builtSays v) (OffsetsReady (now offsets)) ⌝ }
-    ensures { λ r. ⌜ OffsetsCoded (builtSays v) (now (offsets .entry)) (length (now (bases .entry))) (length (now (short .entry))) (length (now («long_at» .entry))) (length (now («long_value» .entry))) (builtSays r) (now (bases .exit)) (now (short .exit)) (now («long_at» .exit)) (now («long_value» .exit)) ⌝ }
+    ensures { λ r. ⌜ OffsetsCoded (builtSays v) (entry offsets)
+        (length (entry bases)) (length (entry short)) (length (entry «long_at»)) (length (entry «long_value»))
+        (builtSays r) (exit bases) (exit short) (exit «long_at») (exit «long_value») ⌝ }
 {
     let Built::Done(c) = v else {
         return v;

@@ -1,10 +1,12 @@
 // The end: every column cleared behind its used part, and the work space whole; after a refusal all of them.
 use crate::answers;
 use rules::Built;
+ghost use Rattle.columns.specs.Loans.{entry, exit};
 ghost use Rattle.rules.specs.Types.{builtSays};
+ghost use Rattle.rules.specs.Tables.{codingLeft};
 ghost use Prim.Native.Nat.{_≤_};
 ghost use Rattle.code_stages.specs.Stages.{Where};
-ghost use Rattle.code_stages.specs.Settling.{leftOf, Settled};
+ghost use Rattle.code_stages.specs.Settling.{Settled};
 
 pub fn settle(
     b: Built,
@@ -18,12 +20,15 @@ pub fn settle(
     table: &mut [u16],
     escape_at: &mut [u64],
     escape_label: &mut [u32],
-    codes: &mut [u16],
+    edge_codes: &mut [u16],
     counting: &mut [u64],
     ranking: &mut [u64],
 )
     requires { ⌜ Where (builtSays b) (names ≤ 16777216) ⌝ }
-    ensures { λ _. ⌜ Settled (builtSays b) names edges (leftOf (now (bases .entry)) (now (short .entry)) (now («long_at» .entry)) (now («long_value» .entry)) (now (fields .entry)) (now (table .entry)) (now («escape_at» .entry)) (now («escape_label» .entry)) (now (codes .entry)) (now (counting .entry)) (now (ranking .entry))) (leftOf (now (bases .exit)) (now (short .exit)) (now («long_at» .exit)) (now («long_value» .exit)) (now (fields .exit)) (now (table .exit)) (now («escape_at» .exit)) (now («escape_label» .exit)) (now (codes .exit)) (now (counting .exit)) (now (ranking .exit))) ⌝ }
+    ensures { λ _. ⌜ (
+        let before = codingLeft entry bases short «long_at» «long_value» fields table «escape_at» «escape_label» «edge_codes» counting ranking in
+        let left = codingLeft exit bases short «long_at» «long_value» fields table «escape_at» «escape_label» «edge_codes» counting ranking in
+        Settled (builtSays b) names edges before left) ⌝ }
 {
     columns::zero_u64(bases, answers::used_to(b, bases.len()));
     columns::zero_u16(short, answers::used_to(b, short.len()));
@@ -34,7 +39,7 @@ pub fn settle(
     let escapes = answers::escapes_of(b);
     columns::zero_u64(escape_at, escapes);
     columns::zero_u32(escape_label, escapes);
-    columns::zero_u16(codes, answers::used_to(b, edges));
+    columns::zero_u16(edge_codes, answers::used_to(b, edges));
     columns::zero_u64(counting, 0);
     columns::zero_u64(ranking, 0);
 }

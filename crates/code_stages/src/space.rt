@@ -4,8 +4,9 @@ use crate::fields;
 use rules::Built;
 ghost use mathlib.Core.Path.{_≡_};
 ghost use lib.ListN.{length};
+ghost use Rattle.columns.specs.Loans.{entry};
 ghost use Rattle.rules.specs.Types.{builtSays};
-ghost use Rattle.labels.specs.Fields.{naming};
+ghost use Rattle.labels.specs.Fields.{nameColumns};
 ghost use Rattle.code_stages.specs.Stages.{Where, SpaceReady, fieldsBy, escapesOf, spaceSays};
 
 // The need of buffer 7, without counting and ranking space.
@@ -24,8 +25,12 @@ fn escapes_without(
     fields: &mut [u32],
     table: &mut [u16],
 ) -> usize
-    requires { ⌜ SpaceReady (naming (now «slot_starts») (now «slot_ends») (now «static_starts») (now «static_ends») (now «slot_labels») (now «static_names») (now «static_types»)) classes names (now offsets) (now labels) (length (now fields)) (length (now table)) ⌝ }
-    ensures { λ r. ⌜ r ≡ escapesOf (fieldsBy (naming (now («slot_starts» .entry)) (now («slot_ends» .entry)) (now («static_starts» .entry)) (now («static_ends» .entry)) (now («slot_labels» .entry)) (now («static_names» .entry)) (now («static_types» .entry))) classes names (now (labels .entry))) (now (offsets .entry)) (now (labels .entry)) ⌝ }
+    requires { ⌜ (
+        let named = nameColumns now «slot_starts» «slot_ends» «static_starts» «static_ends» «slot_labels» «static_names» «static_types» in
+        SpaceReady named classes names (now offsets) (now labels) (length (now fields)) (length (now table))) ⌝ }
+    ensures { λ r. ⌜ (
+        let named = nameColumns entry «slot_starts» «slot_ends» «static_starts» «static_ends» «slot_labels» «static_names» «static_types» in
+        r ≡ escapesOf (fieldsBy named classes names (entry labels)) (entry offsets) (entry labels)) ⌝ }
 {
     columns::zero_u16(table, 0);
     labels::fields::mark_named(
@@ -65,14 +70,19 @@ pub fn space_room(
     names: usize,
     escape_at: usize,
     escape_label: usize,
-    codes: usize,
+    edge_codes: usize,
     counting: usize,
     ranking: usize,
     fields: &mut [u32],
     table: &mut [u16],
 ) -> Built
-    requires { ⌜ Where (builtSays v) (SpaceReady (naming (now «slot_starts») (now «slot_ends») (now «static_starts») (now «static_ends») (now «slot_labels») (now «static_names») (now «static_types»)) classes names (now offsets) (now labels) (length (now fields)) (length (now table))) ⌝ }
-    ensures { λ r. ⌜ builtSays r ≡ spaceSays (builtSays v) (escapesOf (fieldsBy (naming (now («slot_starts» .entry)) (now («slot_ends» .entry)) (now («static_starts» .entry)) (now («static_ends» .entry)) (now («slot_labels» .entry)) (now («static_names» .entry)) (now («static_types» .entry))) classes names (now (labels .entry))) (now (offsets .entry)) (now (labels .entry))) (length (now (labels .entry))) names «escape_at» «escape_label» codes counting ranking ⌝ }
+    requires { ⌜ (
+        let named = nameColumns now «slot_starts» «slot_ends» «static_starts» «static_ends» «slot_labels» «static_names» «static_types» in
+        Where (builtSays v) (SpaceReady named classes names (now offsets) (now labels) (length (now fields)) (length (now table)))) ⌝ }
+    ensures { λ r. ⌜ (
+        let named = nameColumns entry «slot_starts» «slot_ends» «static_starts» «static_ends» «slot_labels» «static_names» «static_types» in
+        let escapes = escapesOf (fieldsBy named classes names (entry labels)) (entry offsets) (entry labels) in
+        builtSays r ≡ spaceSays (builtSays v) escapes (length (entry labels)) names «escape_at» «escape_label» «edge_codes» counting ranking) ⌝ }
 {
     let Built::Done(_) = v else {
         return v;
@@ -93,7 +103,7 @@ pub fn space_room(
             fields,
             table,
         );
-        return answers::first_short(rows, labels.len(), escape_at, escape_label, codes, 9);
+        return answers::first_short(rows, labels.len(), escape_at, escape_label, edge_codes, 9);
     }
     v
 }

@@ -1,4 +1,6 @@
--- The references of one object, over the columns that hold them. Assumes nothing.
+-- The references of one object, over the columns that hold them: `slotRefs`, `elementRef`, `classRefs` of `rules/specs/Edges.antt` restated on flat
+-- columns. Each comment names the law of `edge_pass/proofs/Bridge.antt` that ties the two; together they are the rule `refs`, by the law `copied-refs`.
+-- Assumes nothing.
 use Prim.Native.Nat.{ℕ, zero, suc, _+_, _-_, _^_, _≤_, _<_}
 use mathlib.Core.Path.{_≡_}
 use mathlib.Core.Bool.{Bool, true, cond, not, _||_}
@@ -13,19 +15,19 @@ use Rattle.rules.specs.Input.{copiedId}
 use Rattle.rules.specs.Edges.{Ref}
 use Rattle.edge_append.specs.Append.{refOf}
 
--- "A slot is kept if it isn't weak or its class's kind is kept."
+-- "A slot is kept if it isn't weak or its class's kind is kept": the rule `slotKept`, law `slot-same`.
 unfoldable pub keptOf : ℕ → Bool → Bool
 keptOf weak keeps = not (eqb weak 1) || keeps
 
--- the slot at a place of the slot columns, where it holds an id
+-- the slot at a place of the slot columns, where it holds an id: the rule `slotRef`, law `slot-same`
 unfoldable pub slotWith : List ℕ → List ℕ → Bool → ℕ → ℕ → Ref
 slotWith labels weak keeps place id = refOf 0 (labels ! place) (keptOf (weak ! place) keeps) id
 
--- "Element i gives label `ARRAY_ELEMENT` + i."
+-- "Element i gives label `ARRAY_ELEMENT` + i": the rule `elementRef`, law `element-same`.
 unfoldable pub elementWith : ℕ → ℕ → Ref
 elementWith k id = refOf 1 (ARRAY-ELEMENT + k) true id
 
--- Copied: the ids stand from `start` on, in order; the slots from `first` on.
+-- Copied: the ids stand from `start` on, in order; the slots from `first` on. The rules `slotRef` and `elementRef`, laws `slot-same` and `element-same`.
 unfoldable pub copiedSlot : Ids → ℕ → List ℕ → List ℕ → Bool → ℕ → ℕ → Ref
 copiedSlot c start labels weak keeps first k = slotWith labels weak keeps (first + k) (copiedId c (start + k))
 
@@ -42,23 +44,24 @@ pub record SlotsIn (kinds starts ends : List ℕ) (labels weak kind class start 
   pub weak-in : kind ≡ 0 → ends ! class ≤ weak
   pub held : kind ≡ 0 → start + (ends ! class - starts ! class) < 2 ^ 64
 
--- "Class is read for instances only": the slots of an object of any kind.
+-- "Class is read for instances only": the slots of an object of any kind, the rule `slotRefs`, law `slots-same`.
 unfoldable pub copiedSlots : Ids → ℕ → List ℕ → List ℕ → List ℕ → List ℕ → List ℕ → ReferencePolicy → ℕ → ℕ → List Ref
 copiedSlots c start kinds starts ends labels weak policy kind class =
     tab (copiedSlot c start labels weak (keeps policy (kinds ! class)) (starts ! class)) (cond (eqb kind 0) (ends ! class - starts ! class) 0)
 
--- its elements
+-- its elements, the rule `elementRef` as often as `elementCount` says, law `elements-same`
 unfoldable pub copiedElements : Ids → ℕ → ℕ → ℕ → List Ref
 copiedElements c start kind count = tab (copiedElement c start) (cond (eqb kind 1) count 0)
 
--- "Type 2 is an object; 4 to 11 are skipped": the static at a place of the static columns.
+-- "Type 2 is an object; 4 to 11 are skipped": the static at a place of the static columns, the rule `staticRefs`, law `classes-same`.
 unfoldable pub staticAt : List ℕ → List ℕ → List ℕ → ℕ → List Ref
 staticAt names types values place = cond (eqb (types ! place) 2) (refOf 2 (names ! place) true (values ! place) ∷ []) []
 
 unfoldable pub staticFrom : List ℕ → List ℕ → List ℕ → ℕ → ℕ → List Ref
 staticFrom names types values first k = staticAt names types values (first + k)
 
--- The class found at an object, by its mark: the class and one, 0 for none. Its object statics in order, and its loader.
+-- The class found at an object, by its mark: the class and one, 0 for none. Its object statics in order, and its loader: the rule `classRefs`, law
+-- `classes-same`.
 unfoldable pub staticsAt : List ℕ → List ℕ → List ℕ → List ℕ → List ℕ → ℕ → List Ref
 staticsAt starts ends names types values zero = []
 staticsAt starts ends names types values (suc c) = collect (staticFrom names types values (starts ! c)) (ends ! c - starts ! c)

@@ -28,7 +28,8 @@ unfoldable pub together : Parts → List Ref
 together p = p .slots ++ (p .elements ++ (p .statics ++ p .loaders))
 
 -- By the copied route: ids from `start` on, an object of a kind, a class and a length, and the mark of the class that is found at it.
-unfoldable pub copiedParts : Ids → ℕ → List ℕ → List ℕ → List ℕ → List ℕ → List ℕ → ReferencePolicy → ℕ → ℕ → ℕ → List ℕ → List ℕ → List ℕ → List ℕ → List ℕ → List ℕ → ℕ → Parts
+unfoldable pub copiedParts : Ids → ℕ → List ℕ → List ℕ → List ℕ → List ℕ → List ℕ → ReferencePolicy → ℕ → ℕ → ℕ → List ℕ → List ℕ → List ℕ
+    → List ℕ → List ℕ → List ℕ → ℕ → Parts
 copiedParts c start kinds starts ends labels weak policy kind class count loaders firsts lasts names types values mark = record {
   slots = copiedSlots c start kinds starts ends labels weak policy kind class;
   elements = copiedElements c start kind count;
@@ -37,7 +38,8 @@ copiedParts c start kinds starts ends labels weak policy kind class count loader
 }
 
 -- By the raw route: a body of `body` bytes from `start` on.
-unfoldable pub rawParts : List ℕ → ℕ → ℕ → ℕ → List ℕ → List ℕ → List ℕ → List ℕ → List ℕ → List ℕ → ReferencePolicy → ℕ → ℕ → ℕ → List ℕ → List ℕ → List ℕ → List ℕ → List ℕ → List ℕ → ℕ → Parts
+unfoldable pub rawParts : List ℕ → ℕ → ℕ → ℕ → List ℕ → List ℕ → List ℕ → List ℕ → List ℕ → List ℕ → ReferencePolicy → ℕ → ℕ → ℕ
+    → List ℕ → List ℕ → List ℕ → List ℕ → List ℕ → List ℕ → ℕ → Parts
 rawParts bytes size start body kinds starts ends offsets labels weak policy kind class count loaders firsts lasts names types values mark = record {
   slots = rawSlots bytes size start body kinds starts ends offsets labels weak policy kind class;
   elements = rawElements bytes size start kind count;

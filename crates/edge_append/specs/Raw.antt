@@ -33,7 +33,8 @@ rawElement bytes size start k = elementWith k (bytesId bytes size (start + k * s
 
 unfoldable pub rawSlots : List ℕ → ℕ → ℕ → ℕ → List ℕ → List ℕ → List ℕ → List ℕ → List ℕ → List ℕ → ReferencePolicy → ℕ → ℕ → List Ref
 rawSlots bytes size start body kinds starts ends offsets labels weak policy kind class =
-    tab (rawSlot bytes size start offsets labels weak (keeps policy (kinds ! class)) (starts ! class)) (slotsRead offsets size body (starts ! class) (cond (eqb kind 0) (ends ! class - starts ! class) 0))
+    tab (rawSlot bytes size start offsets labels weak (keeps policy (kinds ! class)) (starts ! class))
+    (slotsRead offsets size body (starts ! class) (cond (eqb kind 0) (ends ! class - starts ! class) 0))
 
 unfoldable pub rawElements : List ℕ → ℕ → ℕ → ℕ → ℕ → List Ref
 rawElements bytes size start kind count = tab (rawElement bytes size start) (cond (eqb kind 1) count 0)

@@ -4,6 +4,7 @@ ghost use mathlib.Core.Path.{_≡_};
 ghost use mathlib.Core.List.{[], _∷_};
 ghost use Prim.Native.Nat.{_^_, _<_};
 ghost use lib.ListN.{length};
+ghost use Rattle.columns.specs.Loans.{entry, exit};
 ghost use Rattle.edge_append.specs.Append.{refOf, Room, Appended};
 ghost use Rattle.edge_append.specs.Held.{keptOf, slotWith, elementWith};
 
@@ -39,7 +40,7 @@ pub fn append(
     weak: &mut [u32],
 ) -> Pass
     requires { ⌜ Room (now ids) (refOf kind label kept id ∷ []) s (length (now targets)) (length (now labels)) (length (now weak)) ⌝ }
-    ensures { λ q. ⌜ Appended (now (ids .entry)) (refOf kind label kept id ∷ []) s q (now (targets .entry)) (now (labels .entry)) (now (weak .entry)) (now (targets .exit)) (now (labels .exit)) (now (weak .exit)) ⌝ }
+    ensures { λ q. ⌜ Appended (entry ids) (refOf kind label kept id ∷ []) s q (entry targets) (entry labels) (entry weak) (exit targets) (exit labels) (exit weak) ⌝ }
 {
     if id == 0 {
         return s;
@@ -89,7 +90,8 @@ pub fn append_slot(
 ) -> Pass
     requires { ⌜ (place < length (now «slot_labels»)) × (place < length (now «slot_weak»)) ⌝ }
     requires { ⌜ Room (now ids) (slotWith (now «slot_labels») (now «slot_weak») keeps place id ∷ []) s (length (now targets)) (length (now labels)) (length (now weak)) ⌝ }
-    ensures { λ q. ⌜ Appended (now (ids .entry)) (slotWith (now («slot_labels» .entry)) (now («slot_weak» .entry)) keeps place id ∷ []) s q (now (targets .entry)) (now (labels .entry)) (now (weak .entry)) (now (targets .exit)) (now (labels .exit)) (now (weak .exit)) ⌝ }
+    ensures { λ q. ⌜ Appended (entry ids) (slotWith (entry «slot_labels») (entry «slot_weak») keeps place id ∷ []) s q (entry targets) (entry labels)
+        (entry weak) (exit targets) (exit labels) (exit weak) ⌝ }
 {
     let kept = is_kept(slot_weak[place], keeps);
     append(
@@ -121,7 +123,7 @@ pub fn append_element(
 ) -> Pass
     requires { ⌜ k < 2 ^ 31 ⌝ }
     requires { ⌜ Room (now ids) (elementWith k id ∷ []) s (length (now targets)) (length (now labels)) (length (now weak)) ⌝ }
-    ensures { λ q. ⌜ Appended (now (ids .entry)) (elementWith k id ∷ []) s q (now (targets .entry)) (now (labels .entry)) (now (weak .entry)) (now (targets .exit)) (now (labels .exit)) (now (weak .exit)) ⌝ }
+    ensures { λ q. ⌜ Appended (entry ids) (elementWith k id ∷ []) s q (entry targets) (entry labels) (entry weak) (exit targets) (exit labels) (exit weak) ⌝ }
 {
     let label = rules::Label::ARRAY_ELEMENT + narrow(k);
     append(

@@ -10,6 +10,7 @@ ghost use mathlib.Core.Path.{_≡_};
 ghost use Prim.Native.Nat.{_+_, _*_, _^_, _≤_, _<_};
 ghost use lib.ListN.{length};
 ghost use Rattle.columns.specs.Ranks.{Rises};
+ghost use Rattle.columns.specs.Loans.{entry, exit};
 ghost use Rattle.index.specs.Copied.{idsOf};
 ghost use Rattle.edge_append.specs.Held.{SlotsIn, StaticsIn};
 ghost use Rattle.edge_append.specs.Raw.{BodyIn};
@@ -56,8 +57,22 @@ pub fn object_copied(
     requires { ⌜ (kind ≡ 1 → (count ≤ 2 ^ 31) × (start + count < 2 ^ 64)) ⌝ }
     requires { ⌜ StaticsIn (now «static_starts») (now «static_ends») (length (now «static_names»)) (length (now «static_types»)) (length (now «static_values»)) mark ⌝ }
     requires { ⌜ (0 < mark → mark ≤ length (now loaders)) ⌝ }
-    requires { ⌜ Ready (now ids) (copiedParts (idsOf (now codes) (now «escape_places») (now «escape_ids») base) start (now «class_kinds») (now «slot_starts») (now «slot_ends») (now «slot_labels») (now «slot_weak») policy kind class count (now loaders) (now «static_starts») (now «static_ends») (now «static_names») (now «static_types») (now «static_values») mark) from (length (now targets)) (length (now labels)) (length (now «weak_from»)) (length (now «weak_to»)) (now account) ⌝ }
-    ensures { λ q. ⌜ Done (now (ids .entry)) (copiedParts (idsOf (now (codes .entry)) (now («escape_places» .entry)) (now («escape_ids» .entry)) base) start (now («class_kinds» .entry)) (now («slot_starts» .entry)) (now («slot_ends» .entry)) (now («slot_labels» .entry)) (now («slot_weak» .entry)) policy kind class count (now (loaders .entry)) (now («static_starts» .entry)) (now («static_ends» .entry)) (now («static_names» .entry)) (now («static_types» .entry)) (now («static_values» .entry)) mark) object from q (now (targets .entry)) (now (labels .entry)) (now («weak_from» .entry)) (now («weak_to» .entry)) (now (account .entry)) (now (targets .exit)) (now (labels .exit)) (now («weak_from» .exit)) (now («weak_to» .exit)) (now (account .exit)) ⌝ }
+    requires { ⌜ (
+        let held = idsOf (now codes) (now «escape_places») (now «escape_ids») base in
+        let parts = copiedParts held start
+        (now «class_kinds») (now «slot_starts») (now «slot_ends») (now «slot_labels») (now «slot_weak»)
+        policy kind class count (now loaders)
+        (now «static_starts») (now «static_ends») (now «static_names») (now «static_types») (now «static_values») mark in
+        Ready (now ids) parts from (length (now targets)) (length (now labels)) (length (now «weak_from»)) (length (now «weak_to»)) (now account)) ⌝ }
+    ensures { λ q. ⌜ (
+        let held = idsOf (entry codes) (entry «escape_places») (entry «escape_ids») base in
+        let parts = copiedParts held start
+        (entry «class_kinds») (entry «slot_starts») (entry «slot_ends») (entry «slot_labels») (entry «slot_weak»)
+        policy kind class count (entry loaders)
+        (entry «static_starts») (entry «static_ends») (entry «static_names») (entry «static_types») (entry «static_values») mark in
+        Done (entry ids) parts object from q
+        (entry targets) (entry labels) (entry «weak_from») (entry «weak_to») (entry account)
+        (exit targets) (exit labels) (exit «weak_from») (exit «weak_to») (exit account)) ⌝ }
 {
     let s1 = copied::object_slots(
         from,
@@ -177,8 +192,20 @@ pub fn object_raw(
     requires { ⌜ (kind ≡ 1 → (count ≤ 2 ^ 31) × (size ≤ 8) × (start + count * size ≤ length (now bytes))) ⌝ }
     requires { ⌜ StaticsIn (now «static_starts») (now «static_ends») (length (now «static_names»)) (length (now «static_types»)) (length (now «static_values»)) mark ⌝ }
     requires { ⌜ (0 < mark → mark ≤ length (now loaders)) ⌝ }
-    requires { ⌜ Ready (now ids) (rawParts (now bytes) size start body (now «class_kinds») (now «slot_starts») (now «slot_ends») (now «slot_offsets») (now «slot_labels») (now «slot_weak») policy kind class count (now loaders) (now «static_starts») (now «static_ends») (now «static_names») (now «static_types») (now «static_values») mark) from (length (now targets)) (length (now labels)) (length (now «weak_from»)) (length (now «weak_to»)) (now account) ⌝ }
-    ensures { λ q. ⌜ Done (now (ids .entry)) (rawParts (now (bytes .entry)) size start body (now («class_kinds» .entry)) (now («slot_starts» .entry)) (now («slot_ends» .entry)) (now («slot_offsets» .entry)) (now («slot_labels» .entry)) (now («slot_weak» .entry)) policy kind class count (now (loaders .entry)) (now («static_starts» .entry)) (now («static_ends» .entry)) (now («static_names» .entry)) (now («static_types» .entry)) (now («static_values» .entry)) mark) object from q (now (targets .entry)) (now (labels .entry)) (now («weak_from» .entry)) (now («weak_to» .entry)) (now (account .entry)) (now (targets .exit)) (now (labels .exit)) (now («weak_from» .exit)) (now («weak_to» .exit)) (now (account .exit)) ⌝ }
+    requires { ⌜ (
+        let parts = rawParts (now bytes) size start body
+        (now «class_kinds») (now «slot_starts») (now «slot_ends») (now «slot_offsets») (now «slot_labels») (now «slot_weak»)
+        policy kind class count (now loaders)
+        (now «static_starts») (now «static_ends») (now «static_names») (now «static_types») (now «static_values») mark in
+        Ready (now ids) parts from (length (now targets)) (length (now labels)) (length (now «weak_from»)) (length (now «weak_to»)) (now account)) ⌝ }
+    ensures { λ q. ⌜ (
+        let parts = rawParts (entry bytes) size start body
+        (entry «class_kinds») (entry «slot_starts») (entry «slot_ends») (entry «slot_offsets») (entry «slot_labels») (entry «slot_weak»)
+        policy kind class count (entry loaders)
+        (entry «static_starts») (entry «static_ends») (entry «static_names») (entry «static_types») (entry «static_values») mark in
+        Done (entry ids) parts object from q
+        (entry targets) (entry labels) (entry «weak_from») (entry «weak_to») (entry account)
+        (exit targets) (exit labels) (exit «weak_from») (exit «weak_to») (exit account)) ⌝ }
 {
     let s1 = raw::object_slots(
         from,

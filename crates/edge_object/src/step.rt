@@ -6,6 +6,7 @@ ghost use Prim.Native.Nat.{_+_, _*_, _^_, _≤_, _<_};
 ghost use lib.ListN.{length, set};
 ghost use Rattle.columns.specs.Lists.{_!_};
 ghost use Rattle.columns.specs.Ranks.{Rises};
+ghost use Rattle.columns.specs.Loans.{entry, exit};
 ghost use Rattle.index.specs.Copied.{idsOf};
 ghost use Rattle.edge_append.specs.Held.{SlotsIn, StaticsIn};
 ghost use Rattle.edge_append.specs.Raw.{BodyIn};
@@ -49,13 +50,29 @@ pub fn step_copied(
     requires { ⌜ Rises (now «escape_places») ⌝ }
     requires { ⌜ o < 2 ^ 32 ⌝ }
     requires { ⌜ (o < length (now kinds)) × (o < length (now classes)) × (o < length (now lengths)) × (o < length (now starts)) × (o + 1 < length (now working)) ⌝ }
-    requires { ⌜ SlotsIn (now «class_kinds») (now «slot_starts») (now «slot_ends») (length (now «slot_labels»)) (length (now «slot_weak»)) (now kinds ! o) (now classes ! o) (now starts ! o) ⌝ }
+    requires { ⌜ SlotsIn (now «class_kinds») (now «slot_starts») (now «slot_ends») (length (now «slot_labels»)) (length (now «slot_weak»)) (now kinds ! o)
+        (now classes ! o) (now starts ! o) ⌝ }
     requires { ⌜ (now kinds ! o ≡ 1 → (now lengths ! o ≤ 2 ^ 31) × (now starts ! o + now lengths ! o < 2 ^ 64)) ⌝ }
-    requires { ⌜ StaticsIn (now «static_starts») (now «static_ends») (length (now «static_names»)) (length (now «static_types»)) (length (now «static_values»)) (now working ! (o + 1)) ⌝ }
+    requires { ⌜ StaticsIn (now «static_starts») (now «static_ends») (length (now «static_names»)) (length (now «static_types»))
+        (length (now «static_values»)) (now working ! (o + 1)) ⌝ }
     requires { ⌜ (0 < now working ! (o + 1) → now working ! (o + 1) ≤ length (now loaders)) ⌝ }
-    requires { ⌜ Ready (now ids) (copiedParts (idsOf (now codes) (now «escape_places») (now «escape_ids») base) ((now starts) ! o) (now «class_kinds») (now «slot_starts») (now «slot_ends») (now «slot_labels») (now «slot_weak») policy ((now kinds) ! o) ((now classes) ! o) ((now lengths) ! o) (now loaders) (now «static_starts») (now «static_ends») (now «static_names») (now «static_types») (now «static_values») ((now working) ! (o + 1))) from (length (now targets)) (length (now labels)) (length (now «weak_from»)) (length (now «weak_to»)) (now account) ⌝ }
-    ensures { λ q. ⌜ Done (now (ids .entry)) (copiedParts (idsOf (now (codes .entry)) (now («escape_places» .entry)) (now («escape_ids» .entry)) base) ((now (starts .entry)) ! o) (now («class_kinds» .entry)) (now («slot_starts» .entry)) (now («slot_ends» .entry)) (now («slot_labels» .entry)) (now («slot_weak» .entry)) policy ((now (kinds .entry)) ! o) ((now (classes .entry)) ! o) ((now (lengths .entry)) ! o) (now (loaders .entry)) (now («static_starts» .entry)) (now («static_ends» .entry)) (now («static_names» .entry)) (now («static_types» .entry)) (now («static_values» .entry)) ((now (working .entry)) ! (o + 1))) o from q (now (targets .entry)) (now (labels .entry)) (now («weak_from» .entry)) (now («weak_to» .entry)) (now (account .entry)) (now (targets .exit)) (now (labels .exit)) (now («weak_from» .exit)) (now («weak_to» .exit)) (now (account .exit)) ⌝ }
-    ensures { λ q. ⌜ now (working .exit) ≡ set (now (working .entry)) (o + 1) (q .edges) ⌝ }
+    requires { ⌜ (
+        let held = idsOf (now codes) (now «escape_places») (now «escape_ids») base in
+        let parts = copiedParts held (now starts ! o)
+        (now «class_kinds») (now «slot_starts») (now «slot_ends») (now «slot_labels») (now «slot_weak»)
+        policy (now kinds ! o) (now classes ! o) (now lengths ! o) (now loaders)
+        (now «static_starts») (now «static_ends») (now «static_names») (now «static_types») (now «static_values») (now working ! (o + 1)) in
+        Ready (now ids) parts from (length (now targets)) (length (now labels)) (length (now «weak_from»)) (length (now «weak_to»)) (now account)) ⌝ }
+    ensures { λ q. ⌜ (
+        let held = idsOf (entry codes) (entry «escape_places») (entry «escape_ids») base in
+        let parts = copiedParts held (entry starts ! o)
+        (entry «class_kinds») (entry «slot_starts») (entry «slot_ends») (entry «slot_labels») (entry «slot_weak»)
+        policy (entry kinds ! o) (entry classes ! o) (entry lengths ! o) (entry loaders)
+        (entry «static_starts») (entry «static_ends») (entry «static_names») (entry «static_types») (entry «static_values») (entry working ! (o + 1)) in
+        Done (entry ids) parts o from q
+        (entry targets) (entry labels) (entry «weak_from») (entry «weak_to») (entry account)
+        (exit targets) (exit labels) (exit «weak_from») (exit «weak_to») (exit account)) ⌝ }
+    ensures { λ q. ⌜ exit working ≡ set (entry working) (o + 1) (q .edges) ⌝ }
 {
     let mark = working[o + 1] as usize;
     let kind = kinds[o];
@@ -135,16 +152,30 @@ pub fn step_raw(
     account: &mut [[u64; 3]; 4],
 ) -> Pass
     requires { ⌜ o < 2 ^ 32 ⌝ }
-    requires { ⌜ (o < length (now kinds)) × (o < length (now classes)) × (o < length (now lengths)) × (o < length (now starts)) × (o < length (now bodies)) × (o + 1 < length (now working)) ⌝ }
+    requires { ⌜ (o < length (now kinds)) × (o < length (now classes)) × (o < length (now lengths)) × (o < length (now starts)) × (o < length (now bodies))
+        × (o + 1 < length (now working)) ⌝ }
     requires { ⌜ SlotsIn (now «class_kinds») (now «slot_starts») (now «slot_ends») (length (now «slot_labels»)) (length (now «slot_weak»)) (now kinds ! o) (now classes ! o) 0 ⌝ }
     requires { ⌜ length (now «slot_offsets») ≡ length (now «slot_labels») ⌝ }
     requires { ⌜ (now kinds ! o ≡ 0 → BodyIn (length (now bytes)) size (now starts ! o) (now bodies ! o)) ⌝ }
     requires { ⌜ (now kinds ! o ≡ 1 → (now lengths ! o ≤ 2 ^ 31) × (size ≤ 8) × (now starts ! o + now lengths ! o * size ≤ length (now bytes))) ⌝ }
-    requires { ⌜ StaticsIn (now «static_starts») (now «static_ends») (length (now «static_names»)) (length (now «static_types»)) (length (now «static_values»)) (now working ! (o + 1)) ⌝ }
+    requires { ⌜ StaticsIn (now «static_starts») (now «static_ends») (length (now «static_names»)) (length (now «static_types»))
+        (length (now «static_values»)) (now working ! (o + 1)) ⌝ }
     requires { ⌜ (0 < now working ! (o + 1) → now working ! (o + 1) ≤ length (now loaders)) ⌝ }
-    requires { ⌜ Ready (now ids) (rawParts (now bytes) size ((now starts) ! o) ((now bodies) ! o) (now «class_kinds») (now «slot_starts») (now «slot_ends») (now «slot_offsets») (now «slot_labels») (now «slot_weak») policy ((now kinds) ! o) ((now classes) ! o) ((now lengths) ! o) (now loaders) (now «static_starts») (now «static_ends») (now «static_names») (now «static_types») (now «static_values») ((now working) ! (o + 1))) from (length (now targets)) (length (now labels)) (length (now «weak_from»)) (length (now «weak_to»)) (now account) ⌝ }
-    ensures { λ q. ⌜ Done (now (ids .entry)) (rawParts (now (bytes .entry)) size ((now (starts .entry)) ! o) ((now (bodies .entry)) ! o) (now («class_kinds» .entry)) (now («slot_starts» .entry)) (now («slot_ends» .entry)) (now («slot_offsets» .entry)) (now («slot_labels» .entry)) (now («slot_weak» .entry)) policy ((now (kinds .entry)) ! o) ((now (classes .entry)) ! o) ((now (lengths .entry)) ! o) (now (loaders .entry)) (now («static_starts» .entry)) (now («static_ends» .entry)) (now («static_names» .entry)) (now («static_types» .entry)) (now («static_values» .entry)) ((now (working .entry)) ! (o + 1))) o from q (now (targets .entry)) (now (labels .entry)) (now («weak_from» .entry)) (now («weak_to» .entry)) (now (account .entry)) (now (targets .exit)) (now (labels .exit)) (now («weak_from» .exit)) (now («weak_to» .exit)) (now (account .exit)) ⌝ }
-    ensures { λ q. ⌜ now (working .exit) ≡ set (now (working .entry)) (o + 1) (q .edges) ⌝ }
+    requires { ⌜ (
+        let parts = rawParts (now bytes) size (now starts ! o) (now bodies ! o)
+        (now «class_kinds») (now «slot_starts») (now «slot_ends») (now «slot_offsets») (now «slot_labels») (now «slot_weak»)
+        policy (now kinds ! o) (now classes ! o) (now lengths ! o) (now loaders)
+        (now «static_starts») (now «static_ends») (now «static_names») (now «static_types») (now «static_values») (now working ! (o + 1)) in
+        Ready (now ids) parts from (length (now targets)) (length (now labels)) (length (now «weak_from»)) (length (now «weak_to»)) (now account)) ⌝ }
+    ensures { λ q. ⌜ (
+        let parts = rawParts (entry bytes) size (entry starts ! o) (entry bodies ! o)
+        (entry «class_kinds») (entry «slot_starts») (entry «slot_ends») (entry «slot_offsets») (entry «slot_labels») (entry «slot_weak»)
+        policy (entry kinds ! o) (entry classes ! o) (entry lengths ! o) (entry loaders)
+        (entry «static_starts») (entry «static_ends») (entry «static_names») (entry «static_types») (entry «static_values») (entry working ! (o + 1)) in
+        Done (entry ids) parts o from q
+        (entry targets) (entry labels) (entry «weak_from») (entry «weak_to») (entry account)
+        (exit targets) (exit labels) (exit «weak_from») (exit «weak_to») (exit account)) ⌝ }
+    ensures { λ q. ⌜ exit working ≡ set (entry working) (o + 1) (q .edges) ⌝ }
 {
     let mark = working[o + 1] as usize;
     let kind = kinds[o];

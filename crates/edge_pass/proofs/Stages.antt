@@ -30,46 +30,13 @@ use Rattle.edge_append.specs.Object.{Parts, copiedPartsOf, rawPartsOf}
 use Rattle.edge_append.specs.declared.Pass.{Pass}
 use Rattle.edge_pass.specs.Walk.{edgesTo, weakTo, endsTo, Walked, WalkRoom}
 use Rattle.edge_pass.specs.Range.{partsOf, partsFrom, PartIn, ObjectIn}
-use Rattle.edge_pass.specs.Stage.{Handed, withPass, edgesSaid, Edged}
+use Rattle.edge_pass.specs.Tables.{narrowTo, offsetsFor, narrow, Passable}
+use Rattle.edge_pass.specs.Stage.{Handed, withPass, edgesSaid, Edged, HandedFrom, EdgedFrom}
 use Rattle.edge_pass.proofs.Walks.{from-length}
 use Rattle.edge_pass.proofs.Accepted.{CodesFit, object-in}
 use Rattle.edge_pass.proofs.Parted.{Agrees, agrees}
 use Rattle.edge_pass.proofs.Comes.{over-front, over-behind, all-edges, all-weak, all-objects, all-missing, all-offsets}
 use Rattle.edge_pass.proofs.Counted.{all-account}
-
--- The input without the columns that a pass does not read.
-abbrev narrowTo : Input → List ℕ → Input
-narrowTo x offsets =
-    let k = x .schema .classes in
-    let s = x .schema .slots in
-    record {
-      objects = x .objects;
-      schema = record {
-        classes = record {
-          ids = [];
-          loaders = k .loaders;
-          dumped = [];
-          kinds = k .kinds;
-          slotStart = k .slotStart;
-          slotEnd = k .slotEnd;
-          staticStart = k .staticStart;
-          staticEnd = k .staticEnd;
-        };
-        slots = record { offsets = offsets; labels = s .labels; weak = s .weak };
-        statics = x .schema .statics;
-        names = 0;
-      };
-      roots = [];
-      route = x .route;
-      policy = x .policy;
-    }
-
-abbrev offsetsFor : Input → Route → List ℕ
-offsetsFor x (copied c) = []
-offsetsFor x (raw r) = x .schema .slots .offsets
-
-abbrev pub narrow : Input → Input
-narrow x = narrowTo x (offsetsFor x (x .route))
 
 part-narrow : (x : Input) (o : ℕ) (t : Route) → PartIn x t o → PartIn (narrowTo x (offsetsFor x t)) t o
 part-narrow x o (copied c) h = record { start = h .start; slots = h .slots; elements = h .elements }
@@ -103,7 +70,7 @@ module _ (x : Input) {nt nl nf nw : ℕ} {wk : List ℕ} {a : List (List ℕ)} (
   passed = check-passed x (d .accepted)
 
   -- "The first escape not rising": of an accepted input there is none.
-  pub handed-escapes : (c : Copied) → x .route ≡ copied c → Rises (c .ids .places)
+  handed-escapes : (c : Copied) → x .route ≡ copied c → Rises (c .ids .places)
   unfolding badCopied
   handed-escapes c e =
       let ps = c .ids .places in
@@ -113,7 +80,7 @@ module _ (x : Input) {nt nl nf nw : ℕ} {wk : List ℕ} {a : List (List ℕ)} (
       let none = append-empty fallen bad both .0 in
       steps-rise ps (λ i l. leb-false (ps ! suc i) (ps ! i) (second-fails _ _ (places-none (falls ps) (length ps) (suc i) none l) (lt-ltb 0 (suc i) (omega arith))))
 
-  pub handed-objects : CodesFit (x .route) → (i : ℕ) → i < objectCount x → ObjectIn (narrow x) wk (0 + i)
+  handed-objects : CodesFit (x .route) → (i : ℕ) → i < objectCount x → ObjectIn (narrow x) wk (0 + i)
   handed-objects f i l =
       let z : i ≡ 0 + i = omega arith in
       subst (ObjectIn (narrow x) wk) z (object-narrow x (object-in x passed wk (d .offsets) f i l (d .marks i l)))
@@ -143,7 +110,7 @@ module _ (x : Input) {nt nl nf nw : ℕ} {wk : List ℕ} {a : List (List ℕ)} (
   unfolding needWeak
   weak-room = refl
 
-  pub handed-room : {s : Pass} → s ≡ begun → WalkRoom (x .objects .ids) parts (objectCount x) s nt nl nf nw
+  handed-room : {s : Pass} → s ≡ begun → WalkRoom (x .objects .ids) parts (objectCount x) s nt nl nf nw
   handed-room {s} e =
       rw e
       (record {
@@ -156,7 +123,7 @@ module _ (x : Input) {nt nl nf nw : ℕ} {wk : List ℕ} {a : List (List ℕ)} (
         missing = omega (arith, all-missing x parts agree, missing-below x passed);
       })
 
-  pub handed-account : (s : Pass) → AccountIn a s
+  handed-account : (s : Pass) → AccountIn a s
   handed-account s =
       let none : RowIn (0 ∷ 0 ∷ 0 ∷ []) s = record { edges = omega arith; weak = omega arith; missing = omega arith } in
       rw (d .nothing) (record { slots = none; elements = none; statics = none; loaders = none })
@@ -203,7 +170,7 @@ module _
         pass-is q (omega (arith, w .next, edge-number x d)) (omega (arith, w .next-weak, weak-number x d)) (omega (arith, w .lost, all-missing x (parts x d) (agree x d)))
 
     -- Where the answer so far accepts, the pass over all objects leaves what the stage is to leave.
-    pub edged : {v r : Built} → r ≡ withPass v q → Edged x v r ts ls fs ws wk ts′ ls′ fs′ ws′ wk′ a′
+    edged : {v r : Built} → r ≡ withPass v q → Edged x v r ts ls fs ws wk ts′ ls′ fs′ ws′ wk′ a′
     unfolding edgesSaid
     edged {v} f = record {
       answer = f ∙ ap (withPass v) pass-left;
@@ -221,7 +188,7 @@ unfolding edgesSaid accepts
 refusal-stands x (Built.Done c) e = absurd (false≢true (sym e))
 refusal-stands x (Built.Refused e′) e = refl
 
-pub edged-not : (x : Input) {v : Built} {ts ls fs ws wk : List ℕ} {a : List (List ℕ)} → accepts (builtSays v) ≡ false → Edged x v v ts ls fs ws wk ts ls fs ws wk a
+edged-not : (x : Input) {v : Built} {ts ls fs ws wk : List ℕ} {a : List (List ℕ)} → accepts (builtSays v) ≡ false → Edged x v v ts ls fs ws wk ts ls fs ws wk a
 edged-not x {v} e = record {
   answer = refusal-stands x v e;
   targets = λ t. absurd (false≢true (sym e ∙ t));
@@ -231,3 +198,29 @@ edged-not x {v} e = record {
   offsets = λ t. absurd (false≢true (sym e ∙ t));
   account = λ t. absurd (false≢true (sym e ∙ t));
 }
+
+-- The same of the columns that a pass reads.
+module _ {p : Input} {nt nl nf nw : ℕ} {wk : List ℕ} {a : List (List ℕ)} (h : HandedFrom p nt nl nf nw wk a) where
+  pub from-escapes : (c : Copied) → p .route ≡ copied c → Rises (c .ids .places)
+  from-escapes c e = handed-escapes (h .whole) (h .handed) c (ap (λ (z : Input). z .route) (h .read) ∙ e)
+
+  pub from-passable : CodesFit (p .route) → {s : Pass} → s ≡ begun → Passable p wk 0 (length (p .objects .ids)) s nt nl nf nw
+  from-passable f {s} e =
+      subst (λ (z : Input). Passable z wk 0 (length (z .objects .ids)) s nt nl nf nw) (h .read)
+      (record {
+        objects = handed-objects (h .whole) (h .handed) (subst (λ (z : Input). CodesFit (z .route)) (sym (h .read)) f);
+        room = handed-room (h .whole) (h .handed) e;
+      })
+
+  pub from-account : (s : Pass) → AccountIn a s
+  from-account s = handed-account (h .whole) (h .handed) s
+
+pub edged-from : (p : Input) {v r : Built} {ts ls fs ws wk : List ℕ} {a : List (List ℕ)} {s q : Pass} {ts′ ls′ fs′ ws′ wk′ : List ℕ} {a′ : List (List ℕ)} → accepts (builtSays v) ≡ true → s ≡ begun
+    → Walked (p .objects .ids) (partsFrom p wk 0) 0 (length (p .objects .ids)) s q ts ls fs ws wk a ts′ ls′ fs′ ws′ wk′ a′ → r ≡ withPass v q
+    → EdgedFrom p v r ts ls fs ws wk a ts′ ls′ fs′ ws′ wk′ a′
+edged-from p {v} {r} {ts} {ls} {fs} {ws} {wk} {a} {s} {q} {ts′} {ls′} {fs′} {ws′} {wk′} {a′} ok e w f = λ x n d.
+    edged x (d ok) e
+    (subst (λ (z : Input). Walked (z .objects .ids) (partsFrom z wk 0) 0 (length (z .objects .ids)) s q ts ls fs ws wk a ts′ ls′ fs′ ws′ wk′ a′) (sym n) w) f
+
+pub edged-from-not : (p : Input) {v : Built} {ts ls fs ws wk : List ℕ} {a a′ : List (List ℕ)} → accepts (builtSays v) ≡ false → EdgedFrom p v v ts ls fs ws wk a ts ls fs ws wk a′
+edged-from-not p ok = λ x n d. edged-not x ok

@@ -51,5 +51,6 @@ pub record ObjectIn (x : Input) (working : List ℕ) (o : ℕ) : Type 0 where
   pub count : o < length (x .objects .lengths)
   pub offset : o + 1 < length working
   pub part : PartIn x (x .route) o
-  pub statics : StaticsIn (x .schema .classes .staticStart) (x .schema .classes .staticEnd) (length (x .schema .statics .names)) (length (x .schema .statics .types)) (length (x .schema .statics .values)) (working ! (o + 1))
+  pub statics : StaticsIn (x .schema .classes .staticStart) (x .schema .classes .staticEnd)
+      (length (x .schema .statics .names)) (length (x .schema .statics .types)) (length (x .schema .statics .values)) (working ! (o + 1))
   pub loader : 0 < working ! (o + 1) → working ! (o + 1) ≤ length (x .schema .classes .loaders)

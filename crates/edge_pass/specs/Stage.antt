@@ -17,6 +17,7 @@ use Rattle.rules.specs.Verdict.{checkSays}
 use Rattle.rules.specs.Account.{account, noAccount}
 use Rattle.edge_append.specs.Object.{marked}
 use Rattle.edge_append.specs.declared.Pass.{Pass}
+use Rattle.edge_pass.specs.Tables.{narrow}
 
 -- An accepted input, room for its places and its weak pairs, a mark behind each object's place, and an account of zeros.
 pub record Handed (x : Input) (nt nl nf nw : ℕ) (working : List ℕ) (a : List (List ℕ)) : Type 0 where
@@ -47,3 +48,16 @@ pub record Edged (x : Input) (v r : Built) (ts ls fs ws wk ts′ ls′ fs′ ws�
   pub weaks : accepts (builtSays v) ≡ true → ws′ ≡ over (graph x .weakTo) ws
   pub offsets : accepts (builtSays v) ≡ true → wk′ ≡ over (graph x .offsets) wk
   pub account : accepts (builtSays v) ≡ true → a′ ≡ account x
+
+-- The stage is lent only the columns that a pass reads, p: there is a whole input that has them, and is handed over.
+pub record HandedFrom (p : Input) (nt nl nf nw : ℕ) (working : List ℕ) (a : List (List ℕ)) : Type 0 where
+  pub whole : Input
+  pub read : narrow whole ≡ p
+  pub handed : Handed whole nt nl nf nw working a
+
+-- What the stage leaves, by each whole input that has them and is handed over where the answer so far accepts.
+abbrev pub EdgedFrom : Input → Built → Built
+    → List ℕ → List ℕ → List ℕ → List ℕ → List ℕ → List (List ℕ) → List ℕ → List ℕ → List ℕ → List ℕ → List ℕ → List (List ℕ) → Type 0
+EdgedFrom p v r ts ls fs ws wk a ts′ ls′ fs′ ws′ wk′ a′ =
+    (x : Input) → narrow x ≡ p → (accepts (builtSays v) ≡ true → Handed x (length ts) (length ls) (length fs) (length ws) wk a)
+    → Edged x v r ts ls fs ws wk ts′ ls′ fs′ ws′ wk′ a′

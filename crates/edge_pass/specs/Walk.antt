@@ -44,7 +44,10 @@ pub record RowGrown (ids r r′ : List ℕ) (rs : List Ref) : Type 0 where
   pub missing : r′ ! 2 ≡ r ! 2 + missingIn ids rs
 
 -- The pass over the first n objects of a range, from one state to another, in the columns and in the account.
-pub record Walked (ids : List ℕ) (p : ℕ → Parts) (first n : ℕ) (s q : Pass) (ts ls fs ws wk : List ℕ) (a : List (List ℕ)) (ts′ ls′ fs′ ws′ wk′ : List ℕ) (a′ : List (List ℕ)) : Type 0 where
+pub record Walked
+    (ids : List ℕ) (p : ℕ → Parts) (first n : ℕ) (s q : Pass)
+    (ts ls fs ws wk : List ℕ) (a : List (List ℕ)) (ts′ ls′ fs′ ws′ wk′ : List ℕ) (a′ : List (List ℕ))
+    : Type 0 where
   pub targets : ts′ ≡ sets ts (s .edges) (map targetOf (edgesTo ids p n))
   pub labels : ls′ ≡ sets ls (s .edges) (map labelOf (edgesTo ids p n))
   pub objects : fs′ ≡ sets fs (s .weak) (fromTo ids p first n)

@@ -4,17 +4,17 @@ use edge_append::Pass;
 use edge_object::step;
 ghost use mathlib.Core.Path.{_≡_};
 ghost use mathlib.Core.Bool.{true};
-ghost use mathlib.Core.List.{[]};
-ghost use Prim.Native.Nat.{ℕ, _+_, _<_};
 ghost use lib.ListN.{length};
 ghost use Rattle.columns.specs.Columns.{accepts};
 ghost use Rattle.columns.specs.Ranks.{Rises};
 ghost use Rattle.rules.specs.Types.{builtSays};
 ghost use Rattle.edge_append.specs.Account.{AccountIn};
-ghost use Rattle.edge_pass.specs.Tables.{copiedInput};
-ghost use Rattle.edge_pass.specs.Range.{partsFrom, ObjectIn};
-ghost use Rattle.edge_pass.specs.Walk.{Walked, WalkRoom};
-ghost use Rattle.edge_pass.specs.Stage.{Handed, Edged};
+ghost use Rattle.columns.specs.Loans.{entry, exit};
+ghost use Rattle.rules.specs.Tables.{objectTable, staticTable, copiedRoute};
+ghost use Rattle.edge_pass.specs.Tables.{passClasses, passSlots, passInput, Passable};
+ghost use Rattle.edge_pass.specs.Range.{partsFrom};
+ghost use Rattle.edge_pass.specs.Walk.{Walked};
+ghost use Rattle.edge_pass.specs.Stage.{HandedFrom, EdgedFrom};
 
 // The first `count` objects from `first` on, from the state that the pass before handed on. A cursor goes along the escapes with them.
 pub fn walk_copied(
@@ -52,10 +52,21 @@ pub fn walk_copied(
     account: &mut [[u64; 3]; 4],
 ) -> Pass
     requires { ⌜ Rises (now «escape_places») ⌝ }
-    requires { ⌜ ((i : ℕ) → i < count → ObjectIn (copiedInput (now ids) (now kinds) (now classes) (now lengths) [] (now loaders) [] (now «class_kinds») (now «slot_starts») (now «slot_ends») (now «static_starts») (now «static_ends») [] (now «slot_labels») (now «slot_weak») (now «static_names») (now «static_types») (now «static_values») 0 (now codes) (now «escape_places») (now «escape_ids») base (now starts) [] policy) (now working) (first + i)) ⌝ }
-    requires { ⌜ WalkRoom (now ids) (partsFrom (copiedInput (now ids) (now kinds) (now classes) (now lengths) [] (now loaders) [] (now «class_kinds») (now «slot_starts») (now «slot_ends») (now «static_starts») (now «static_ends») [] (now «slot_labels») (now «slot_weak») (now «static_names») (now «static_types») (now «static_values») 0 (now codes) (now «escape_places») (now «escape_ids») base (now starts) [] policy) (now working) first) count from (length (now targets)) (length (now labels)) (length (now «weak_from»)) (length (now «weak_to»)) ⌝ }
+    requires { ⌜ (
+        let input = passInput (objectTable now ids kinds classes lengths)
+        (passClasses now loaders «class_kinds» «slot_starts» «slot_ends» «static_starts» «static_ends»)
+        (passSlots now «slot_labels» «slot_weak») (staticTable now «static_names» «static_types» «static_values»)
+        (copiedRoute now codes «escape_places» «escape_ids» base starts) policy in
+        Passable input (now working) first count from (length (now targets)) (length (now labels)) (length (now «weak_from»)) (length (now «weak_to»))) ⌝ }
     requires { ⌜ AccountIn (now account) from ⌝ }
-    ensures { λ q. ⌜ Walked (now (ids .entry)) (partsFrom (copiedInput (now (ids .entry)) (now (kinds .entry)) (now (classes .entry)) (now (lengths .entry)) [] (now (loaders .entry)) [] (now («class_kinds» .entry)) (now («slot_starts» .entry)) (now («slot_ends» .entry)) (now («static_starts» .entry)) (now («static_ends» .entry)) [] (now («slot_labels» .entry)) (now («slot_weak» .entry)) (now («static_names» .entry)) (now («static_types» .entry)) (now («static_values» .entry)) 0 (now (codes .entry)) (now («escape_places» .entry)) (now («escape_ids» .entry)) base (now (starts .entry)) [] policy) (now (working .entry)) first) first count from q (now (targets .entry)) (now (labels .entry)) (now («weak_from» .entry)) (now («weak_to» .entry)) (now (working .entry)) (now (account .entry)) (now (targets .exit)) (now (labels .exit)) (now («weak_from» .exit)) (now («weak_to» .exit)) (now (working .exit)) (now (account .exit)) ⌝ }
+    ensures { λ q. ⌜ (
+        let input = passInput (objectTable entry ids kinds classes lengths)
+        (passClasses entry loaders «class_kinds» «slot_starts» «slot_ends» «static_starts» «static_ends»)
+        (passSlots entry «slot_labels» «slot_weak») (staticTable entry «static_names» «static_types» «static_values»)
+        (copiedRoute entry codes «escape_places» «escape_ids» base starts) policy in
+        Walked (entry ids) (partsFrom input (entry working) first) first count from q
+        (entry targets) (entry labels) (entry «weak_from») (entry «weak_to») (entry working) (entry account)
+        (exit targets) (exit labels) (exit «weak_from») (exit «weak_to») (exit working) (exit account)) ⌝ }
 {
     let mut s = from;
     let mut row = 0;
@@ -102,34 +113,30 @@ pub fn walk_copied(
 }
 
 // The edge stage of a build: one pass over all objects appends the edges and the weak pairs, writes the offsets over the marks, and counts. Handed a
-// refusal it does nothing. Some columns are not read: the contract speaks of the whole input.
+// refusal it does nothing. It is lent the columns that a pass reads; the contract
+// speaks of the whole inputs that have them.
 pub fn edges_copied(
     v: rules::Built,
     ids: &[u64],
     kinds: &[u8],
     classes: &[u32],
     lengths: &[u32],
-    class_ids: &[u64],
     loaders: &[u64],
-    dumped: &[u8],
     class_kinds: &[u8],
     slot_starts: &[u32],
     slot_ends: &[u32],
     static_starts: &[u32],
     static_ends: &[u32],
-    slot_offsets: &[u32],
     slot_labels: &[u32],
     slot_weak: &[u8],
     static_names: &[u32],
     static_types: &[u8],
     static_values: &[u64],
-    name_count: usize,
     codes: &[u32],
     escape_places: &[u64],
     escape_ids: &[u64],
     base: u64,
     starts: &[u32],
-    roots: &[u32],
     policy: rules::ReferencePolicy,
     short: &[u16],
     working: &mut [u64],
@@ -139,8 +146,20 @@ pub fn edges_copied(
     weak_to: &mut [u32],
     account: &mut [[u64; 3]; 4],
 ) -> rules::Built
-    requires { ⌜ (accepts (builtSays v) ≡ true → Handed (copiedInput (now ids) (now kinds) (now classes) (now lengths) (now «class_ids») (now loaders) (now dumped) (now «class_kinds») (now «slot_starts») (now «slot_ends») (now «static_starts») (now «static_ends») (now «slot_offsets») (now «slot_labels») (now «slot_weak») (now «static_names») (now «static_types») (now «static_values») «name_count» (now codes) (now «escape_places») (now «escape_ids») base (now starts) (now roots) policy) (length (now targets)) (length (now labels)) (length (now «weak_from»)) (length (now «weak_to»)) (now working) (now account)) ⌝ }
-    ensures { λ r. ⌜ Edged (copiedInput (now (ids .entry)) (now (kinds .entry)) (now (classes .entry)) (now (lengths .entry)) (now («class_ids» .entry)) (now (loaders .entry)) (now (dumped .entry)) (now («class_kinds» .entry)) (now («slot_starts» .entry)) (now («slot_ends» .entry)) (now («static_starts» .entry)) (now («static_ends» .entry)) (now («slot_offsets» .entry)) (now («slot_labels» .entry)) (now («slot_weak» .entry)) (now («static_names» .entry)) (now («static_types» .entry)) (now («static_values» .entry)) «name_count» (now (codes .entry)) (now («escape_places» .entry)) (now («escape_ids» .entry)) base (now (starts .entry)) (now (roots .entry)) policy) v r (now (targets .entry)) (now (labels .entry)) (now («weak_from» .entry)) (now («weak_to» .entry)) (now (working .entry)) (now (targets .exit)) (now (labels .exit)) (now («weak_from» .exit)) (now («weak_to» .exit)) (now (working .exit)) (now (account .exit)) ⌝ }
+    requires { ⌜ (
+        let input = passInput (objectTable now ids kinds classes lengths)
+        (passClasses now loaders «class_kinds» «slot_starts» «slot_ends» «static_starts» «static_ends»)
+        (passSlots now «slot_labels» «slot_weak») (staticTable now «static_names» «static_types» «static_values»)
+        (copiedRoute now codes «escape_places» «escape_ids» base starts) policy in
+        (accepts (builtSays v) ≡ true →
+        HandedFrom input (length (now targets)) (length (now labels)) (length (now «weak_from»)) (length (now «weak_to»)) (now working) (now account))) ⌝ }
+    ensures { λ r. ⌜ (
+        let input = passInput (objectTable entry ids kinds classes lengths)
+        (passClasses entry loaders «class_kinds» «slot_starts» «slot_ends» «static_starts» «static_ends»)
+        (passSlots entry «slot_labels» «slot_weak») (staticTable entry «static_names» «static_types» «static_values»)
+        (copiedRoute entry codes «escape_places» «escape_ids» base starts) policy in
+        EdgedFrom input v r (entry targets) (entry labels) (entry «weak_from») (entry «weak_to») (entry working) (entry account)
+        (exit targets) (exit labels) (exit «weak_from») (exit «weak_to») (exit working) (exit account)) ⌝ }
 {
     if !rules::accepted(v) {
         return v;

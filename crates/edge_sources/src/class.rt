@@ -4,6 +4,7 @@ use edge_append::append;
 ghost use Prim.Native.Nat.{_+_, _≤_, _<_};
 ghost use lib.ListN.{length};
 ghost use Rattle.columns.specs.Lists.{collect};
+ghost use Rattle.columns.specs.Loans.{entry, exit};
 ghost use Rattle.edge_append.specs.Append.{Room, Appended};
 ghost use Rattle.edge_append.specs.Held.{staticAt, staticFrom, StaticsIn, staticsAt, loaderAt};
 
@@ -26,7 +27,8 @@ fn append_static(
 ) -> Pass
     requires { ⌜ (place < length (now «static_names»)) × (place < length (now «static_types»)) × (place < length (now «static_values»)) ⌝ }
     requires { ⌜ Room (now ids) (staticAt (now «static_names») (now «static_types») (now «static_values») place) s (length (now targets)) (length (now labels)) (length (now weak)) ⌝ }
-    ensures { λ q. ⌜ Appended (now (ids .entry)) (staticAt (now («static_names» .entry)) (now («static_types» .entry)) (now («static_values» .entry)) place) s q (now (targets .entry)) (now (labels .entry)) (now (weak .entry)) (now (targets .exit)) (now (labels .exit)) (now (weak .exit)) ⌝ }
+    ensures { λ q. ⌜ Appended (entry ids) (staticAt (entry «static_names») (entry «static_types») (entry «static_values») place) s q (entry targets)
+        (entry labels) (entry weak) (exit targets) (exit labels) (exit weak) ⌝ }
 {
     if static_types[place] != OBJECT {
         return s;
@@ -61,8 +63,10 @@ fn statics(
     weak: &mut [u32],
 ) -> Pass
     requires { ⌜ (first + count ≤ length (now «static_names»)) × (first + count ≤ length (now «static_types»)) × (first + count ≤ length (now «static_values»)) ⌝ }
-    requires { ⌜ Room (now ids) (collect (staticFrom (now «static_names») (now «static_types») (now «static_values») first) count) from (length (now targets)) (length (now labels)) (length (now weak)) ⌝ }
-    ensures { λ q. ⌜ Appended (now (ids .entry)) (collect (staticFrom (now («static_names» .entry)) (now («static_types» .entry)) (now («static_values» .entry)) first) count) from q (now (targets .entry)) (now (labels .entry)) (now (weak .entry)) (now (targets .exit)) (now (labels .exit)) (now (weak .exit)) ⌝ }
+    requires { ⌜ Room (now ids) (collect (staticFrom (now «static_names») (now «static_types») (now «static_values») first) count) from (length (now targets))
+        (length (now labels)) (length (now weak)) ⌝ }
+    ensures { λ q. ⌜ Appended (entry ids) (collect (staticFrom (entry «static_names») (entry «static_types») (entry «static_values») first) count) from q
+        (entry targets) (entry labels) (entry weak) (exit targets) (exit labels) (exit weak) ⌝ }
 {
     let mut s = from;
     let mut k = 0;
@@ -102,8 +106,10 @@ pub fn found_statics(
     weak: &mut [u32],
 ) -> Pass
     requires { ⌜ StaticsIn (now «static_starts») (now «static_ends») (length (now «static_names»)) (length (now «static_types»)) (length (now «static_values»)) mark ⌝ }
-    requires { ⌜ Room (now ids) (staticsAt (now «static_starts») (now «static_ends») (now «static_names») (now «static_types») (now «static_values») mark) s (length (now targets)) (length (now labels)) (length (now weak)) ⌝ }
-    ensures { λ q. ⌜ Appended (now (ids .entry)) (staticsAt (now («static_starts» .entry)) (now («static_ends» .entry)) (now («static_names» .entry)) (now («static_types» .entry)) (now («static_values» .entry)) mark) s q (now (targets .entry)) (now (labels .entry)) (now (weak .entry)) (now (targets .exit)) (now (labels .exit)) (now (weak .exit)) ⌝ }
+    requires { ⌜ Room (now ids) (staticsAt (now «static_starts») (now «static_ends») (now «static_names») (now «static_types») (now «static_values») mark) s
+        (length (now targets)) (length (now labels)) (length (now weak)) ⌝ }
+    ensures { λ q. ⌜ Appended (entry ids) (staticsAt (entry «static_starts») (entry «static_ends») (entry «static_names») (entry «static_types»)
+        (entry «static_values») mark) s q (entry targets) (entry labels) (entry weak) (exit targets) (exit labels) (exit weak) ⌝ }
 {
     if mark == 0 {
         return s;
@@ -140,7 +146,7 @@ pub fn found_loader(
 ) -> Pass
     requires { ⌜ (0 < mark → mark ≤ length (now loaders)) ⌝ }
     requires { ⌜ Room (now ids) (loaderAt (now loaders) mark) s (length (now targets)) (length (now labels)) (length (now weak)) ⌝ }
-    ensures { λ q. ⌜ Appended (now (ids .entry)) (loaderAt (now (loaders .entry)) mark) s q (now (targets .entry)) (now (labels .entry)) (now (weak .entry)) (now (targets .exit)) (now (labels .exit)) (now (weak .exit)) ⌝ }
+    ensures { λ q. ⌜ Appended (entry ids) (loaderAt (entry loaders) mark) s q (entry targets) (entry labels) (entry weak) (exit targets) (exit labels) (exit weak) ⌝ }
 {
     if mark == 0 {
         return s;

@@ -7,6 +7,7 @@ ghost use Prim.Native.Nat.{_+_, _^_, _≤_, _<_};
 ghost use lib.ListN.{length};
 ghost use Rattle.columns.specs.Lists.{tab};
 ghost use Rattle.columns.specs.Ranks.{Rises};
+ghost use Rattle.columns.specs.Loans.{entry, exit};
 ghost use Rattle.index.specs.Copied.{idsOf};
 ghost use Rattle.rules.specs.Input.{copiedId};
 ghost use Rattle.edge_append.specs.Append.{Room, Appended};
@@ -20,7 +21,7 @@ pub fn id_held(
     base: u64,
     place: usize,
 ) -> u64
-    ensures { λ r. ⌜ r ≡ copiedId (idsOf (now (codes .entry)) (now («escape_places» .entry)) (now («escape_ids» .entry)) base) place ⌝ }
+    ensures { λ r. ⌜ r ≡ copiedId (idsOf (entry codes) (entry «escape_places») (entry «escape_ids») base) place ⌝ }
 {
     match index::id_at(codes, escape_places, escape_ids, base, place) {
         index::CopiedId::Id(id) => id,
@@ -52,8 +53,10 @@ fn slots(
 ) -> Pass
     requires { ⌜ Rises (now «escape_places») ⌝ }
     requires { ⌜ (first + count ≤ length (now «slot_labels»)) × (first + count ≤ length (now «slot_weak»)) × (start + count < 2 ^ 64) ⌝ }
-    requires { ⌜ Room (now ids) (tab (copiedSlot (idsOf (now codes) (now «escape_places») (now «escape_ids») base) start (now «slot_labels») (now «slot_weak») keeps first) count) from (length (now targets)) (length (now labels)) (length (now weak)) ⌝ }
-    ensures { λ q. ⌜ Appended (now (ids .entry)) (tab (copiedSlot (idsOf (now (codes .entry)) (now («escape_places» .entry)) (now («escape_ids» .entry)) base) start (now («slot_labels» .entry)) (now («slot_weak» .entry)) keeps first) count) from q (now (targets .entry)) (now (labels .entry)) (now (weak .entry)) (now (targets .exit)) (now (labels .exit)) (now (weak .exit)) ⌝ }
+    requires { ⌜ Room (now ids) (tab (copiedSlot (idsOf (now codes) (now «escape_places») (now «escape_ids») base) start (now «slot_labels») (now «slot_weak»)
+        keeps first) count) from (length (now targets)) (length (now labels)) (length (now weak)) ⌝ }
+    ensures { λ q. ⌜ Appended (entry ids) (tab (copiedSlot (idsOf (entry codes) (entry «escape_places») (entry «escape_ids») base) start (entry «slot_labels»)
+        (entry «slot_weak») keeps first) count) from q (entry targets) (entry labels) (entry weak) (exit targets) (exit labels) (exit weak) ⌝ }
 {
     let mut s = from;
     let mut cursor = row;
@@ -99,8 +102,10 @@ fn elements(
 ) -> Pass
     requires { ⌜ Rises (now «escape_places») ⌝ }
     requires { ⌜ (count ≤ 2 ^ 31) × (start + count < 2 ^ 64) ⌝ }
-    requires { ⌜ Room (now ids) (tab (copiedElement (idsOf (now codes) (now «escape_places») (now «escape_ids») base) start) count) from (length (now targets)) (length (now labels)) (length (now weak)) ⌝ }
-    ensures { λ q. ⌜ Appended (now (ids .entry)) (tab (copiedElement (idsOf (now (codes .entry)) (now («escape_places» .entry)) (now («escape_ids» .entry)) base) start) count) from q (now (targets .entry)) (now (labels .entry)) (now (weak .entry)) (now (targets .exit)) (now (labels .exit)) (now (weak .exit)) ⌝ }
+    requires { ⌜ Room (now ids) (tab (copiedElement (idsOf (now codes) (now «escape_places») (now «escape_ids») base) start) count) from (length (now targets))
+        (length (now labels)) (length (now weak)) ⌝ }
+    ensures { λ q. ⌜ Appended (entry ids) (tab (copiedElement (idsOf (entry codes) (entry «escape_places») (entry «escape_ids») base) start) count) from q
+        (entry targets) (entry labels) (entry weak) (exit targets) (exit labels) (exit weak) ⌝ }
 {
     let mut s = from;
     let mut cursor = row;
@@ -140,8 +145,11 @@ pub fn object_slots(
 ) -> Pass
     requires { ⌜ Rises (now «escape_places») ⌝ }
     requires { ⌜ SlotsIn (now «class_kinds») (now «slot_starts») (now «slot_ends») (length (now «slot_labels»)) (length (now «slot_weak»)) kind class start ⌝ }
-    requires { ⌜ Room (now ids) (copiedSlots (idsOf (now codes) (now «escape_places») (now «escape_ids») base) start (now «class_kinds») (now «slot_starts») (now «slot_ends») (now «slot_labels») (now «slot_weak») policy kind class) s (length (now targets)) (length (now labels)) (length (now weak)) ⌝ }
-    ensures { λ q. ⌜ Appended (now (ids .entry)) (copiedSlots (idsOf (now (codes .entry)) (now («escape_places» .entry)) (now («escape_ids» .entry)) base) start (now («class_kinds» .entry)) (now («slot_starts» .entry)) (now («slot_ends» .entry)) (now («slot_labels» .entry)) (now («slot_weak» .entry)) policy kind class) s q (now (targets .entry)) (now (labels .entry)) (now (weak .entry)) (now (targets .exit)) (now (labels .exit)) (now (weak .exit)) ⌝ }
+    requires { ⌜ Room (now ids) (copiedSlots (idsOf (now codes) (now «escape_places») (now «escape_ids») base) start (now «class_kinds») (now «slot_starts»)
+        (now «slot_ends») (now «slot_labels») (now «slot_weak») policy kind class) s (length (now targets)) (length (now labels)) (length (now weak)) ⌝ }
+    ensures { λ q. ⌜ Appended (entry ids) (copiedSlots (idsOf (entry codes) (entry «escape_places») (entry «escape_ids») base) start (entry «class_kinds»)
+        (entry «slot_starts») (entry «slot_ends») (entry «slot_labels») (entry «slot_weak») policy kind class) s q (entry targets) (entry labels) (entry weak)
+        (exit targets) (exit labels) (exit weak) ⌝ }
 {
     if kind != rules::Kind::INSTANCE {
         return s;
@@ -191,8 +199,10 @@ pub fn object_elements(
 ) -> Pass
     requires { ⌜ Rises (now «escape_places») ⌝ }
     requires { ⌜ (kind ≡ 1 → (count ≤ 2 ^ 31) × (start + count < 2 ^ 64)) ⌝ }
-    requires { ⌜ Room (now ids) (copiedElements (idsOf (now codes) (now «escape_places») (now «escape_ids») base) start kind count) s (length (now targets)) (length (now labels)) (length (now weak)) ⌝ }
-    ensures { λ q. ⌜ Appended (now (ids .entry)) (copiedElements (idsOf (now (codes .entry)) (now («escape_places» .entry)) (now («escape_ids» .entry)) base) start kind count) s q (now (targets .entry)) (now (labels .entry)) (now (weak .entry)) (now (targets .exit)) (now (labels .exit)) (now (weak .exit)) ⌝ }
+    requires { ⌜ Room (now ids) (copiedElements (idsOf (now codes) (now «escape_places») (now «escape_ids») base) start kind count) s (length (now targets))
+        (length (now labels)) (length (now weak)) ⌝ }
+    ensures { λ q. ⌜ Appended (entry ids) (copiedElements (idsOf (entry codes) (entry «escape_places») (entry «escape_ids») base) start kind count) s q
+        (entry targets) (entry labels) (entry weak) (exit targets) (exit labels) (exit weak) ⌝ }
 {
     if kind != rules::Kind::OBJECT_ARRAY {
         return s;

@@ -5,6 +5,7 @@ ghost use mathlib.Core.Path.{_≡_};
 ghost use Prim.Native.Nat.{_+_, _*_, _^_, _≤_, _<_};
 ghost use lib.ListN.{length};
 ghost use Rattle.columns.specs.Lists.{part, tab};
+ghost use Rattle.columns.specs.Loans.{entry, exit};
 ghost use Rattle.rules.specs.Input.{bigEndian};
 ghost use Rattle.edge_append.specs.Append.{Room, Appended};
 ghost use Rattle.edge_append.specs.Held.{SlotsIn};
@@ -26,7 +27,7 @@ fn spot_of(offset: u32) -> usize
 // The number that `size` bytes from `at` on write, highest byte first, one after another.
 fn id_by_bytes(bytes: &[u8], at: usize, size: usize) -> u64
     requires { ⌜ (at + size ≤ length (now bytes)) × (size ≤ 8) ⌝ }
-    ensures { λ r. ⌜ r ≡ bigEndian 0 (part (now (bytes .entry)) at (at + size)) ⌝ }
+    ensures { λ r. ⌜ r ≡ bigEndian 0 (part (entry bytes) at (at + size)) ⌝ }
 {
     let mut high: u64 = 0;
     let mut k = 0;
@@ -40,7 +41,7 @@ fn id_by_bytes(bytes: &[u8], at: usize, size: usize) -> u64
 // The number that four bytes from `at` on write: in a straight line, since the compiler makes one load and one swap of it.
 fn word(bytes: &[u8], at: usize) -> u64
     requires { ⌜ at + 4 ≤ length (now bytes) ⌝ }
-    ensures { λ r. ⌜ (r ≡ bigEndian 0 (part (now (bytes .entry)) at (at + 4))) × (r < 2 ^ 32) ⌝ }
+    ensures { λ r. ⌜ (r ≡ bigEndian 0 (part (entry bytes) at (at + 4))) × (r < 2 ^ 32) ⌝ }
 {
     wide(bytes[at]) * 16777216
         + wide(bytes[at + 1]) * 65536
@@ -51,7 +52,7 @@ fn word(bytes: &[u8], at: usize) -> u64
 // The number that the bytes from `at` on write, highest byte first. The two sizes that ids have are read without a loop.
 pub fn id_at_bytes(bytes: &[u8], at: usize, size: usize) -> u64
     requires { ⌜ (at + size ≤ length (now bytes)) × (size ≤ 8) ⌝ }
-    ensures { λ r. ⌜ r ≡ bigEndian 0 (part (now (bytes .entry)) at (at + size)) ⌝ }
+    ensures { λ r. ⌜ r ≡ bigEndian 0 (part (entry bytes) at (at + size)) ⌝ }
 {
     if size == 8 {
         return word(bytes, at) * 4294967296 + word(bytes, at + 4);
@@ -84,8 +85,10 @@ fn slots(
 ) -> Pass
     requires { ⌜ (first + count ≤ length (now «slot_offsets»)) × (first + count ≤ length (now «slot_labels»)) × (first + count ≤ length (now «slot_weak»)) ⌝ }
     requires { ⌜ BodyIn (length (now bytes)) size start body ⌝ }
-    requires { ⌜ Room (now ids) (tab (rawSlot (now bytes) size start (now «slot_offsets») (now «slot_labels») (now «slot_weak») keeps first) (slotsRead (now «slot_offsets») size body first count)) from (length (now targets)) (length (now labels)) (length (now weak)) ⌝ }
-    ensures { λ q. ⌜ Appended (now (ids .entry)) (tab (rawSlot (now (bytes .entry)) size start (now («slot_offsets» .entry)) (now («slot_labels» .entry)) (now («slot_weak» .entry)) keeps first) (slotsRead (now («slot_offsets» .entry)) size body first count)) from q (now (targets .entry)) (now (labels .entry)) (now (weak .entry)) (now (targets .exit)) (now (labels .exit)) (now (weak .exit)) ⌝ }
+    requires { ⌜ Room (now ids) (tab (rawSlot (now bytes) size start (now «slot_offsets») (now «slot_labels») (now «slot_weak») keeps first)
+        (slotsRead (now «slot_offsets») size body first count)) from (length (now targets)) (length (now labels)) (length (now weak)) ⌝ }
+    ensures { λ q. ⌜ Appended (entry ids) (tab (rawSlot (entry bytes) size start (entry «slot_offsets») (entry «slot_labels») (entry «slot_weak») keeps first)
+        (slotsRead (entry «slot_offsets») size body first count)) from q (entry targets) (entry labels) (entry weak) (exit targets) (exit labels) (exit weak) ⌝ }
 {
     let mut s = from;
     let mut k = 0;
@@ -130,7 +133,7 @@ fn elements(
 ) -> Pass
     requires { ⌜ (count ≤ 2 ^ 31) × (size ≤ 8) × (start + count * size ≤ length (now bytes)) ⌝ }
     requires { ⌜ Room (now ids) (tab (rawElement (now bytes) size start) count) from (length (now targets)) (length (now labels)) (length (now weak)) ⌝ }
-    ensures { λ q. ⌜ Appended (now (ids .entry)) (tab (rawElement (now (bytes .entry)) size start) count) from q (now (targets .entry)) (now (labels .entry)) (now (weak .entry)) (now (targets .exit)) (now (labels .exit)) (now (weak .exit)) ⌝ }
+    ensures { λ q. ⌜ Appended (entry ids) (tab (rawElement (entry bytes) size start) count) from q (entry targets) (entry labels) (entry weak) (exit targets) (exit labels) (exit weak) ⌝ }
 {
     let mut s = from;
     let mut at = start;
@@ -170,8 +173,11 @@ pub fn object_slots(
     requires { ⌜ SlotsIn (now «class_kinds») (now «slot_starts») (now «slot_ends») (length (now «slot_labels»)) (length (now «slot_weak»)) kind class 0 ⌝ }
     requires { ⌜ length (now «slot_offsets») ≡ length (now «slot_labels») ⌝ }
     requires { ⌜ (kind ≡ 0 → BodyIn (length (now bytes)) size start body) ⌝ }
-    requires { ⌜ Room (now ids) (rawSlots (now bytes) size start body (now «class_kinds») (now «slot_starts») (now «slot_ends») (now «slot_offsets») (now «slot_labels») (now «slot_weak») policy kind class) s (length (now targets)) (length (now labels)) (length (now weak)) ⌝ }
-    ensures { λ q. ⌜ Appended (now (ids .entry)) (rawSlots (now (bytes .entry)) size start body (now («class_kinds» .entry)) (now («slot_starts» .entry)) (now («slot_ends» .entry)) (now («slot_offsets» .entry)) (now («slot_labels» .entry)) (now («slot_weak» .entry)) policy kind class) s q (now (targets .entry)) (now (labels .entry)) (now (weak .entry)) (now (targets .exit)) (now (labels .exit)) (now (weak .exit)) ⌝ }
+    requires { ⌜ Room (now ids) (rawSlots (now bytes) size start body (now «class_kinds») (now «slot_starts») (now «slot_ends») (now «slot_offsets»)
+        (now «slot_labels») (now «slot_weak») policy kind class) s (length (now targets)) (length (now labels)) (length (now weak)) ⌝ }
+    ensures { λ q. ⌜ Appended (entry ids) (rawSlots (entry bytes) size start body (entry «class_kinds») (entry «slot_starts») (entry «slot_ends»)
+        (entry «slot_offsets») (entry «slot_labels») (entry «slot_weak») policy kind class) s q (entry targets) (entry labels) (entry weak) (exit targets)
+        (exit labels) (exit weak) ⌝ }
 {
     if kind != rules::Kind::INSTANCE {
         return s;
@@ -217,7 +223,7 @@ pub fn object_elements(
 ) -> Pass
     requires { ⌜ (kind ≡ 1 → (count ≤ 2 ^ 31) × (size ≤ 8) × (start + count * size ≤ length (now bytes))) ⌝ }
     requires { ⌜ Room (now ids) (rawElements (now bytes) size start kind count) s (length (now targets)) (length (now labels)) (length (now weak)) ⌝ }
-    ensures { λ q. ⌜ Appended (now (ids .entry)) (rawElements (now (bytes .entry)) size start kind count) s q (now (targets .entry)) (now (labels .entry)) (now (weak .entry)) (now (targets .exit)) (now (labels .exit)) (now (weak .exit)) ⌝ }
+    ensures { λ q. ⌜ Appended (entry ids) (rawElements (entry bytes) size start kind count) s q (entry targets) (entry labels) (entry weak) (exit targets) (exit labels) (exit weak) ⌝ }
 {
     if kind != rules::Kind::OBJECT_ARRAY {
         return s;

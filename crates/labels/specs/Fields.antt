@@ -1,4 +1,6 @@
--- The fields that have codes, by steps over columns: names that are marked, uses that are counted, keys that are ranked. Assumes nothing.
+-- The fields that have codes, by steps over columns: names that are marked, uses that are counted, keys that are ranked. They restate `named`, `listed`,
+-- `ranked` and `fieldsOf` of `rules/specs/Labels.antt`; each comment names the law of `proofs/Listed.antt` or `proofs/Ranks.antt` that ties the two.
+-- Assumes nothing.
 use Prim.Native.Nat.{ℕ, _+_, _-_, _*_, _%_, _≤_, _<_}
 use mathlib.Core.Path.{_≡_}
 use mathlib.Core.Bool.{Bool, cond}
@@ -59,6 +61,7 @@ abbrev pub nameColumns : {A : Type 0} → (A → List ℕ) → A → A → A →
 nameColumns read slotStart slotEnd staticStart staticEnd labels names types =
     naming (read slotStart) (read slotEnd) (read staticStart) (read staticEnd) (read labels) (read names) (read types)
 
+-- The rule `named`, by the law `named-by`.
 unfoldable pub namedBy : Naming → ℕ → List ℕ
 namedBy s m =
     collect
@@ -76,14 +79,15 @@ pub record Ranges (s : Naming) (m : ℕ) : Type 0 where
   pub statics : (c : ℕ) → c < m → (s .staticStart ! c ≤ s .staticEnd ! c) × (s .staticEnd ! c ≤ length (s .names))
   pub types : length (s .types) ≡ length (s .names)
 
--- the labels whose places are marked: names rising, then the loader
+-- The labels whose places are marked: names rising, then the loader. Where those of a list were marked in a cleared table they are the rule `listed`, by
+-- the laws `marked-cleared` and `marked-listed`.
 abbrev pub isMarked : List ℕ → ℕ → Bool
 isMarked table i = eqb (table ! i) 1
 
 unfoldable pub marked : ℕ → List ℕ → List ℕ
 marked names table = map (labelAt names) (places (isMarked table) (names + 1))
 
--- How often each label is used: 1 more at a label's place, and at the places of a list's labels.
+-- How often each label is used (law `counted`): 1 more at a label's place, and at the places of a list's labels.
 abbrev pub tally : ℕ → List ℕ → ℕ → List ℕ
 tally names t l = set t (slotOf names l) (t ! slotOf names l + 1)
 
@@ -91,7 +95,8 @@ abbrev pub uses : ℕ → List ℕ → List ℕ → List ℕ
 uses names t [] = t
 uses names t (l ∷ ls) = uses names (tally names t l) ls
 
--- "Ranked by use, ties by smaller label": keys rise where use falls, and with the label where it is the same.
+-- "Ranked by use, ties by smaller label": keys rise where use falls, and with the label where it is the same. The labels of the sorted keys are the rule
+-- `ranked`, by the law `is-ranked`.
 abbrev pub keyOf : ℕ → ℕ → ℕ
 keyOf n l = (4294967295 - n) * 4294967296 + l
 
@@ -116,7 +121,8 @@ pub record Keyed (names : ℕ) (counts k₀ : List ℕ) (r : ℕ) (k : List ℕ)
   pub used : r ≡ length (keysOf names counts)
   pub keys : k ≡ over (keysOf names counts) k₀
 
--- "The first 32,767 get codes."
+-- "The first 32,767 get codes": the rule `fieldsOf` where more are listed, by the laws `first-labels` and `fields-ranked`; else it is `listed`, by the law
+-- `fields-listed`.
 unfoldable pub firstOf : ℕ → ℕ → List ℕ → List ℕ
 firstOf k names labels = take k (ranked names labels)
 

@@ -5,6 +5,7 @@ ghost use Prim.Native.Nat.{_≤_, _-_};
 ghost use lib.ListN.{length};
 ghost use Rattle.columns.specs.Lists.{one};
 ghost use Rattle.columns.specs.Columns.{over};
+ghost use Rattle.columns.specs.Loans.{entry, exit};
 ghost use Rattle.rules.specs.Types.{LOADER};
 ghost use Rattle.rules.specs.Labels.{after, isEscaped};
 ghost use Rattle.labels.specs.Coding.{slotOf, Room, gapOf, codeBy, codesBy, allBy, LaidOut, escapesIn, escapedTo, RoomFor, Escapes, Counted, CodesLaid};
@@ -43,7 +44,7 @@ fn gap_of(index: u32, next: u32) -> u16
 // A label's code where an element would have the index `next` at least.
 fn code_of(label: u32, next: u32, names: usize, table: &[u16]) -> u16
     requires { ⌜ Room names (now table) ⌝ }
-    ensures { λ r. ⌜ r ≡ codeBy names (now (table .entry)) next label ⌝ }
+    ensures { λ r. ⌜ r ≡ codeBy names (entry table) next label ⌝ }
 {
     if label < Label::ARRAY_ELEMENT {
         return table[slot_of(label, names)];
@@ -64,7 +65,7 @@ pub fn after(label: u32, next: u32) -> u32
 // The codes of one object's labels. The first element's gap is its index.
 fn code_object(labels: &[u32], names: usize, table: &[u16], codes: &mut [u16])
     requires { ⌜ Room names (now table) × (length (now labels) ≤ length (now codes)) ⌝ }
-    ensures { λ _. ⌜ now (codes .exit) ≡ over (codesBy names (now (table .entry)) (now (labels .entry))) (now (codes .entry)) ⌝ }
+    ensures { λ _. ⌜ exit codes ≡ over (codesBy names (entry table) (entry labels)) (entry codes) ⌝ }
 {
     let mut next = 0;
     let mut i = 0;
@@ -79,7 +80,7 @@ fn code_object(labels: &[u32], names: usize, table: &[u16], codes: &mut [u16])
 // The codes of all objects. No element is carried over to the next object.
 pub fn code_objects(offsets: &[u64], labels: &[u32], names: usize, table: &[u16], codes: &mut [u16])
     requires { ⌜ Room names (now table) × LaidOut (now offsets) (length (now labels)) × (length (now labels) ≤ length (now codes)) ⌝ }
-    ensures { λ _. ⌜ now (codes .exit) ≡ over (allBy names (now (table .entry)) (now (offsets .entry)) (now (labels .entry)) (length (now (offsets .entry)) - 1)) (now (codes .entry)) ⌝ }
+    ensures { λ _. ⌜ exit codes ≡ over (allBy names (entry table) (entry offsets) (entry labels) (length (entry offsets) - 1)) (entry codes) ⌝ }
 {
     let objects = offsets.len() - 1;
     let mut o = 0;
@@ -101,7 +102,7 @@ fn rows_of(code: u16) -> usize
 // How many of one object's labels are escaped.
 fn count_object(labels: &[u32], names: usize, table: &[u16]) -> usize
     requires { ⌜ Room names (now table) ⌝ }
-    ensures { λ r. ⌜ r ≡ escapesIn (codesBy names (now (table .entry)) (now (labels .entry))) ⌝ }
+    ensures { λ r. ⌜ r ≡ escapesIn (codesBy names (entry table) (entry labels)) ⌝ }
 {
     let mut rows = 0;
     let mut next = 0;
@@ -118,7 +119,7 @@ fn count_object(labels: &[u32], names: usize, table: &[u16]) -> usize
 // The need of buffer 7: how many labels are escaped.
 pub fn count_escapes(offsets: &[u64], labels: &[u32], names: usize, table: &[u16]) -> usize
     requires { ⌜ Room names (now table) × LaidOut (now offsets) (length (now labels)) ⌝ }
-    ensures { λ r. ⌜ Counted names (now (table .entry)) (now (offsets .entry)) (now (labels .entry)) r ⌝ }
+    ensures { λ r. ⌜ Counted names (entry table) (entry offsets) (entry labels) r ⌝ }
 {
     let objects = offsets.len() - 1;
     let mut rows = 0;
@@ -141,7 +142,7 @@ pub fn write_escapes(
 ) -> usize
     requires { ⌜ length (now labels) ≤ length (now codes) ⌝ }
     requires { ⌜ RoomFor (length (escapedTo (now codes) (length (now labels)))) (now «escape_at») (now «escape_label») ⌝ }
-    ensures { λ r. ⌜ Escapes (now (codes .entry)) (now (labels .entry)) (now («escape_at» .entry)) (now («escape_label» .entry)) r (now («escape_at» .exit)) (now («escape_label» .exit)) ⌝ }
+    ensures { λ r. ⌜ Escapes (entry codes) (entry labels) (entry «escape_at») (entry «escape_label») r (exit «escape_at») (exit «escape_label») ⌝ }
 {
     let mut k = 0;
     let mut e = 0;
@@ -170,7 +171,8 @@ pub fn write_codes(
 ) -> usize
     requires { ⌜ Room names (now table) × LaidOut (now offsets) (length (now labels)) × (length (now labels) ≤ length (now codes)) ⌝ }
     requires { ⌜ RoomFor (escapesIn (allBy names (now table) (now offsets) (now labels) (length (now offsets) - 1))) (now «escape_at») (now «escape_label») ⌝ }
-    ensures { λ r. ⌜ CodesLaid names (now (table .entry)) (now (offsets .entry)) (now (labels .entry)) (now (codes .entry)) (now («escape_at» .entry)) (now («escape_label» .entry)) r (now (codes .exit)) (now («escape_at» .exit)) (now («escape_label» .exit)) ⌝ }
+    ensures { λ r. ⌜ CodesLaid names (entry table) (entry offsets) (entry labels) (entry codes) (entry «escape_at») (entry «escape_label») r (exit codes)
+        (exit «escape_at») (exit «escape_label») ⌝ }
 {
     code_objects(offsets, labels, names, table, codes);
     write_escapes(codes, labels, escape_at, escape_label)

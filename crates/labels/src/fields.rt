@@ -6,15 +6,16 @@ ghost use mathlib.Core.List.{_∷_};
 ghost use Prim.Native.Nat.{_+_, _-_, _≤_, _<_};
 ghost use lib.ListN.{length};
 ghost use Rattle.columns.specs.Columns.{over};
+ghost use Rattle.columns.specs.Loans.{entry, exit};
 ghost use Rattle.rules.specs.Types.{LOADER};
 ghost use Rattle.rules.specs.Labels.{codeTable};
 ghost use Rattle.labels.specs.Coding.{Room};
-ghost use Rattle.labels.specs.Fields.{labelAt, Named, uncoded, mark, marks, slotsNamed, staticsNamed, naming, namedBy, Ranges, marked};
+ghost use Rattle.labels.specs.Fields.{labelAt, Named, uncoded, mark, marks, slotsNamed, staticsNamed, nameColumns, namedBy, Ranges, marked};
 
 // A table of n places without codes.
 fn clear_table(table: &mut [u16], n: usize)
     requires { ⌜ n ≤ length (now table) ⌝ }
-    ensures { λ _. ⌜ now (table .exit) ≡ over (uncoded n) (now (table .entry)) ⌝ }
+    ensures { λ _. ⌜ exit table ≡ over (uncoded n) (entry table) ⌝ }
 {
     let mut i = 0;
     while i < n {
@@ -27,7 +28,7 @@ fn clear_table(table: &mut [u16], n: usize)
 pub fn write_table(fields: &[u32], names: usize, table: &mut [u16])
     requires { ⌜ Room names (now table) × (length (now fields) ≤ 32767) ⌝ }
     requires { ⌜ Named names (now fields) ⌝ }
-    ensures { λ _. ⌜ now (table .exit) ≡ over (codeTable names (now (fields .entry))) (now (table .entry)) ⌝ }
+    ensures { λ _. ⌜ exit table ≡ over (codeTable names (entry fields)) (entry table) ⌝ }
 {
     clear_table(table, names + 2);
     let mut k = fields.len();
@@ -40,7 +41,7 @@ pub fn write_table(fields: &[u32], names: usize, table: &mut [u16])
 // 1 at the label's place.
 fn mark(label: u32, names: usize, table: &mut [u16])
     requires { ⌜ Room names (now table) ⌝ }
-    ensures { λ _. ⌜ now (table .exit) ≡ mark names (now (table .entry)) label ⌝ }
+    ensures { λ _. ⌜ exit table ≡ mark names (entry table) label ⌝ }
 {
     table[slot_of(label, names)] = 1;
 }
@@ -48,7 +49,7 @@ fn mark(label: u32, names: usize, table: &mut [u16])
 // The labels of one class's slots; or of a range of edges, where the fields that occur are counted.
 pub fn mark_slots(labels: &[u32], from: usize, to: usize, names: usize, table: &mut [u16])
     requires { ⌜ (from ≤ to) × (to ≤ length (now labels)) × Room names (now table) ⌝ }
-    ensures { λ _. ⌜ now (table .exit) ≡ marks names (now (table .entry)) (slotsNamed (now (labels .entry)) from (to - from)) ⌝ }
+    ensures { λ _. ⌜ exit table ≡ marks names (entry table) (slotsNamed (entry labels) from (to - from)) ⌝ }
 {
     let mut i = from;
     while i < to {
@@ -67,7 +68,7 @@ fn mark_statics(
     table: &mut [u16],
 )
     requires { ⌜ (from ≤ to) × (to ≤ length (now «static_names»)) × (to ≤ length (now types)) × Room names (now table) ⌝ }
-    ensures { λ _. ⌜ now (table .exit) ≡ marks names (now (table .entry)) (staticsNamed (now («static_names» .entry)) (now (types .entry)) from (to - from)) ⌝ }
+    ensures { λ _. ⌜ exit table ≡ marks names (entry table) (staticsNamed (entry «static_names») (entry types) from (to - from)) ⌝ }
 {
     let mut i = from;
     while i < to {
@@ -93,8 +94,10 @@ pub fn mark_named(
     names: usize,
     table: &mut [u16],
 )
-    requires { ⌜ Room names (now table) × Ranges (naming (now «slot_starts») (now «slot_ends») (now «static_starts») (now «static_ends») (now «slot_labels») (now «static_names») (now «static_types»)) classes ⌝ }
-    ensures { λ _. ⌜ now (table .exit) ≡ marks names (now (table .entry)) (LOADER ∷ namedBy (naming (now («slot_starts» .entry)) (now («slot_ends» .entry)) (now («static_starts» .entry)) (now («static_ends» .entry)) (now («slot_labels» .entry)) (now («static_names» .entry)) (now («static_types» .entry))) classes) ⌝ }
+    requires { ⌜ Room names (now table) × Ranges (nameColumns now «slot_starts» «slot_ends» «static_starts» «static_ends» «slot_labels» «static_names» «static_types») classes ⌝ }
+    ensures { λ _. ⌜ (
+        let columns = nameColumns entry «slot_starts» «slot_ends» «static_starts» «static_ends» «slot_labels» «static_names» «static_types» in
+        exit table ≡ marks names (entry table) (LOADER ∷ namedBy columns classes)) ⌝ }
 {
     mark(Label::LOADER, names, table);
     let mut c = 0;
@@ -112,7 +115,7 @@ pub fn mark_named(
 // How many labels are marked.
 pub fn count_marked(table: &[u16], names: usize) -> usize
     requires { ⌜ Room names (now table) ⌝ }
-    ensures { λ r. ⌜ r ≡ length (marked names (now (table .entry))) ⌝ }
+    ensures { λ r. ⌜ r ≡ length (marked names (entry table)) ⌝ }
 {
     let mut k = 0;
     let mut i = 0;
@@ -142,7 +145,7 @@ pub(crate) fn label_at(at: usize, names: usize) -> u32
 // The labels that are marked: names rising, then the loader.
 pub fn write_marked(table: &[u16], names: usize, fields: &mut [u32])
     requires { ⌜ Room names (now table) × (length (marked names (now table)) ≤ length (now fields)) ⌝ }
-    ensures { λ _. ⌜ now (fields .exit) ≡ over (marked names (now (table .entry))) (now (fields .entry)) ⌝ }
+    ensures { λ _. ⌜ exit fields ≡ over (marked names (entry table)) (entry fields) ⌝ }
 {
     let mut k = 0;
     let mut i = 0;

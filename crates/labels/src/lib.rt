@@ -7,10 +7,11 @@ pub mod read;
 ghost use mathlib.Core.Path.{_≡_};
 ghost use Prim.Native.Nat.{_+_, _≤_};
 ghost use lib.ListN.{length};
+ghost use Rattle.columns.specs.Loans.{entry, exit};
 ghost use Rattle.rules.specs.Types.{LOADER};
 ghost use Rattle.rules.specs.Labels.{fieldsOf};
 ghost use Rattle.labels.specs.Coding.{Room};
-ghost use Rattle.labels.specs.Fields.{naming, namedBy, Ranges, Chosen};
+ghost use Rattle.labels.specs.Fields.{nameColumns, namedBy, Ranges, Chosen};
 
 // What reading one label back answers.
 pub enum EdgeLabel {
@@ -32,8 +33,10 @@ pub fn count_fields(
     names: usize,
     table: &mut [u16],
 ) -> usize
-    requires { ⌜ Room names (now table) × Ranges (naming (now «slot_starts») (now «slot_ends») (now «static_starts») (now «static_ends») (now «slot_labels») (now «static_names») (now «static_types»)) classes ⌝ }
-    ensures { λ r. ⌜ r ≡ length (fieldsOf names (namedBy (naming (now («slot_starts» .entry)) (now («slot_ends» .entry)) (now («static_starts» .entry)) (now («static_ends» .entry)) (now («slot_labels» .entry)) (now («static_names» .entry)) (now («static_types» .entry))) classes) (now (labels .entry))) ⌝ }
+    requires { ⌜ Room names (now table) × Ranges (nameColumns now «slot_starts» «slot_ends» «static_starts» «static_ends» «slot_labels» «static_names» «static_types») classes ⌝ }
+    ensures { λ r. ⌜ (
+        let columns = nameColumns entry «slot_starts» «slot_ends» «static_starts» «static_ends» «slot_labels» «static_names» «static_types» in
+        r ≡ length (fieldsOf names (namedBy columns classes) (entry labels))) ⌝ }
 {
     columns::zero_u16(table, 0);
     fields::mark_named(
@@ -75,9 +78,13 @@ pub fn write_fields(
     fields: &mut [u32],
 ) -> usize
     requires { ⌜ Room names (now table) × Room names (now counts) × Room names (now keys) × (length (now labels) ≤ 4294967295) ⌝ }
-    requires { ⌜ Ranges (naming (now «slot_starts») (now «slot_ends») (now «static_starts») (now «static_ends») (now «slot_labels») (now «static_names») (now «static_types»)) classes ⌝ }
-    requires { ⌜ length (fieldsOf names (namedBy (naming (now «slot_starts») (now «slot_ends») (now «static_starts») (now «static_ends») (now «slot_labels») (now «static_names») (now «static_types»)) classes) (now labels)) ≤ length (now fields) ⌝ }
-    ensures { λ r. ⌜ Chosen (fieldsOf names (namedBy (naming (now («slot_starts» .entry)) (now («slot_ends» .entry)) (now («static_starts» .entry)) (now («static_ends» .entry)) (now («slot_labels» .entry)) (now («static_names» .entry)) (now («static_types» .entry))) classes) (now (labels .entry))) (now (fields .entry)) r (now (fields .exit)) ⌝ }
+    requires { ⌜ Ranges (nameColumns now «slot_starts» «slot_ends» «static_starts» «static_ends» «slot_labels» «static_names» «static_types») classes ⌝ }
+    requires { ⌜ (
+        let columns = nameColumns now «slot_starts» «slot_ends» «static_starts» «static_ends» «slot_labels» «static_names» «static_types» in
+        length (fieldsOf names (namedBy columns classes) (now labels)) ≤ length (now fields)) ⌝ }
+    ensures { λ r. ⌜ (
+        let columns = nameColumns entry «slot_starts» «slot_ends» «static_starts» «static_ends» «slot_labels» «static_names» «static_types» in
+        Chosen (fieldsOf names (namedBy columns classes) (entry labels)) (entry fields) r (exit fields)) ⌝ }
 {
     columns::zero_u16(table, 0);
     fields::mark_named(
@@ -102,7 +109,7 @@ pub fn write_fields(
 
 // The need of buffer 8: one code for each label.
 pub fn count_codes(labels: &[u32]) -> usize
-    ensures { λ r. ⌜ r ≡ length (now (labels .entry)) ⌝ }
+    ensures { λ r. ⌜ r ≡ length (entry labels) ⌝ }
 {
     labels.len()
 }

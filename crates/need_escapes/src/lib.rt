@@ -5,6 +5,7 @@ ghost use mathlib.Core.Path.{_≡_};
 ghost use Prim.Native.Nat.{_+_, _-_, _≤_, min};
 ghost use lib.ListN.{length};
 ghost use Rattle.columns.specs.Columns.{zeros};
+ghost use Rattle.columns.specs.Loans.{entry, exit};
 ghost use Rattle.rules.specs.Labels.{coded};
 ghost use Rattle.labels.specs.Coding.{Room, LaidOut};
 ghost use Rattle.labels.specs.Fields.{first};
@@ -29,7 +30,7 @@ fn wide(uses: u16) -> usize
 // How often each label is used, up to 65,535, by its place in the table.
 fn count_capped(labels: &[u32], names: usize, table: &mut [u16])
     requires { ⌜ Room names (now table) ⌝ }
-    ensures { λ _. ⌜ now (table .exit) ≡ capped names (now (table .entry)) (now (labels .entry)) ⌝ }
+    ensures { λ _. ⌜ exit table ≡ capped names (entry table) (entry labels) ⌝ }
 {
     let mut i = 0;
     while i < labels.len() {
@@ -42,7 +43,7 @@ fn count_capped(labels: &[u32], names: usize, table: &mut [u16])
 // How many names, and the loader, are used more than `times` times.
 fn used_more(table: &[u16], names: usize, times: usize) -> usize
     requires { ⌜ Room names (now table) ⌝ }
-    ensures { λ r. ⌜ r ≡ usedMore names (now (table .entry)) times ⌝ }
+    ensures { λ r. ⌜ r ≡ usedMore names (entry table) times ⌝ }
 {
     let mut n = 0;
     let mut i = 0;
@@ -61,7 +62,7 @@ fn used_more(table: &[u16], names: usize, times: usize) -> usize
 // that are too many.
 fn count_uncoded(table: &[u16], names: usize) -> usize
     requires { ⌜ Room names (now table) × (usedMore names (now table) 65534 ≤ 32767) ⌝ }
-    ensures { λ r. ⌜ Layered names (now (table .entry)) r ⌝ }
+    ensures { λ r. ⌜ Layered names (entry table) r ⌝ }
 {
     let mut rows: usize = 0;
     let mut times = 0;
@@ -79,7 +80,7 @@ fn count_uncoded(table: &[u16], names: usize) -> usize
 pub fn slow_escapes(offsets: &[u64], labels: &[u32], names: usize, table: &mut [u16]) -> usize
     requires { ⌜ Room names (now table) × LaidOut (now offsets) (length (now labels)) ⌝ }
     requires { ⌜ Labelled names (now labels) × (length (now labels) ≤ 268435456) ⌝ }
-    ensures { λ r. ⌜ Escaped (coded (first names (now (labels .entry))) (now (offsets .entry)) (now (labels .entry)) (length (now (offsets .entry)) - 1)) (now (table .entry)) r (now (table .exit)) ⌝ }
+    ensures { λ r. ⌜ Escaped (coded (first names (entry labels)) (entry offsets) (entry labels) (length (entry offsets) - 1)) (entry table) r (exit table) ⌝ }
 {
     columns::zero_u16(table, 0);
     let elements = labels::code::count_escapes(offsets, labels, names, table);

@@ -1,4 +1,5 @@
--- The weak pairs of an input, counted by both routes over the columns that tell of them. A pair has no label, so none is read. Assumes nothing.
+-- The weak pairs of an input, counted by both routes over the columns that tell of them: `needWeak` of `rules/specs/Needs.antt` restated on flat columns.
+-- A pair has no label, so none is read. Each comment names the law of `proofs/Theorems.antt` or `proofs/Bound.antt` that ties the two. Assumes nothing.
 use Prim.Native.Nat.{ℕ, _+_, _-_, _≤_}
 use mathlib.Core.Path.{_≡_}
 use mathlib.Core.Bool.{Bool, false, cond, not}
@@ -15,11 +16,11 @@ use Rattle.edge_append.specs.Append.{refOf, weakIn}
 use Rattle.edge_append.specs.Held.{copiedSlots}
 use Rattle.edge_append.specs.Raw.{rawSlots}
 
--- "Found, not kept: a weak pair": how many a slot gives that is not kept, by the id that it holds.
+-- "Found, not kept: a weak pair": how many a slot gives that is not kept, by the id that it holds. The rule `refWeak`, by definition.
 unfoldable pub pairTo : List ℕ → ℕ → ℕ
 pairTo ids id = length (refWeak ids (refOf 0 0 false id))
 
--- how many weak pairs references give
+-- how many weak pairs references give: the rule `weakTargets` of an object's references, law `slots-alone`
 unfoldable pub pairsIn : List ℕ → List Ref → ℕ
 pairsIn ids rs = length (weakIn ids rs)
 
@@ -28,7 +29,7 @@ pub record Few (count most r : ℕ) : Type 0 where
   pub is : r ≡ count
   pub few : r ≤ most
 
--- The pairs of one object, from its slots, and of the first n objects: by the copied route,
+-- The pairs of one object, from its slots, and of the first n objects: of all of them the rule `needWeak`, by the copied route (law `weak-copied`),
 unfoldable pub copiedPairs : List ℕ → Ids → ℕ → List ℕ → List ℕ → List ℕ → List ℕ → ReferencePolicy → ℕ → ℕ → ℕ
 copiedPairs ids c start classKinds slotStart slotEnd weak policy kind class = pairsIn ids (copiedSlots c start classKinds slotStart slotEnd [] weak policy kind class)
 
@@ -36,16 +37,17 @@ unfoldable pub copiedTotal : List ℕ → List ℕ → List ℕ → List ℕ →
 copiedTotal ids kinds classes starts c classKinds slotStart slotEnd weak policy n =
     total (λ o. copiedPairs ids c (starts ! o) classKinds slotStart slotEnd weak policy (kinds ! o) (classes ! o)) n
 
--- and by the raw route.
+-- and by the raw route (law `weak-raw`).
 unfoldable pub rawPairs : List ℕ → List ℕ → ℕ → ℕ → ℕ → List ℕ → List ℕ → List ℕ → List ℕ → List ℕ → ReferencePolicy → ℕ → ℕ → ℕ
 rawPairs ids bytes size start body classKinds slotStart slotEnd offsets weak policy kind class =
     pairsIn ids (rawSlots bytes size start body classKinds slotStart slotEnd offsets [] weak policy kind class)
 
-unfoldable pub rawTotal : List ℕ → List ℕ → List ℕ → List ℕ → List ℕ → List ℕ → ℕ → List ℕ → List ℕ → List ℕ → List ℕ → List ℕ → ReferencePolicy → ℕ → ℕ
+unfoldable pub rawTotal : List ℕ → List ℕ → List ℕ → List ℕ → List ℕ → List ℕ → ℕ → List ℕ → List ℕ → List ℕ → List ℕ → List ℕ
+    → ReferencePolicy → ℕ → ℕ
 rawTotal ids kinds classes starts bodies bytes size classKinds slotStart slotEnd offsets weak policy n =
     total (λ o. rawPairs ids bytes size (starts ! o) (bodies ! o) classKinds slotStart slotEnd offsets weak policy (kinds ! o) (classes ! o)) n
 
--- No more than these by either route: the slots that are weak and not kept, whatever ids they hold.
+-- No more than these by either route, which no rule names: the slots that are weak and not kept, whatever ids they hold. Laws `copied-most` and `raw-most`.
 abbrev pub weakAt : List ℕ → ℕ → ℕ → ℕ
 weakAt weak first k = one (eqb (weak ! (first + k)) 1)
 

@@ -8,6 +8,7 @@ ghost use Prim.Native.Nat.{ℕ, _+_, _^_, _≤_, _<_};
 ghost use lib.ListN.{length};
 ghost use Rattle.columns.specs.Lists.{tab, _!_};
 ghost use Rattle.columns.specs.Ranks.{Rises};
+ghost use Rattle.columns.specs.Loans.{entry};
 ghost use Rattle.index.specs.Copied.{idsOf};
 ghost use Rattle.edge_append.specs.Held.{copiedSlot, SlotsIn};
 ghost use Rattle.need_weak.specs.Pairs.{pairsIn, Few, copiedPairs, copiedTotal, ObjectsIn};
@@ -26,7 +27,8 @@ fn slots(
     guess: usize,
 ) -> usize
     requires { ⌜ Rises (now ids) × (first + count ≤ length (now «slot_weak»)) × (start + count < 2 ^ 64) ⌝ }
-    ensures { λ r. ⌜ Few (pairsIn (now (ids .entry)) (tab (copiedSlot (idsOf (now (codes .entry)) (now («escape_places» .entry)) (now («escape_ids» .entry)) base) start [] (now («slot_weak» .entry)) false first) count)) count r ⌝ }
+    ensures { λ r. ⌜ Few (pairsIn (entry ids) (tab (copiedSlot (idsOf (entry codes) (entry «escape_places») (entry «escape_ids») base) start []
+        (entry «slot_weak») false first) count)) count r ⌝ }
 {
     let mut n = 0;
     let mut k = 0;
@@ -60,7 +62,8 @@ fn object(
     guess: usize,
 ) -> usize
     requires { ⌜ Rises (now ids) × SlotsIn (now «class_kinds») (now «slot_starts») (now «slot_ends») (length (now «slot_weak»)) (length (now «slot_weak»)) kind class start ⌝ }
-    ensures { λ r. ⌜ Few (copiedPairs (now (ids .entry)) (idsOf (now (codes .entry)) (now («escape_places» .entry)) (now («escape_ids» .entry)) base) start (now («class_kinds» .entry)) (now («slot_starts» .entry)) (now («slot_ends» .entry)) (now («slot_weak» .entry)) policy kind class) (length (now («slot_weak» .entry))) r ⌝ }
+    ensures { λ r. ⌜ Few (copiedPairs (entry ids) (idsOf (entry codes) (entry «escape_places») (entry «escape_ids») base) start (entry «class_kinds»)
+        (entry «slot_starts») (entry «slot_ends») (entry «slot_weak») policy kind class) (length (entry «slot_weak»)) r ⌝ }
 {
     if kind != rules::Kind::INSTANCE {
         return 0;
@@ -101,8 +104,11 @@ pub fn count_weak_copied(
     policy: rules::ReferencePolicy,
 ) -> usize
     requires { ⌜ ObjectsIn (now ids) (now kinds) (now classes) (now starts) × (length (now «slot_weak») ≤ 268435456) ⌝ }
-    requires { ⌜ ((o : ℕ) → o < length (now ids) → SlotsIn (now «class_kinds») (now «slot_starts») (now «slot_ends») (length (now «slot_weak»)) (length (now «slot_weak»)) (now kinds ! o) (now classes ! o) (now starts ! o)) ⌝ }
-    ensures { λ r. ⌜ r ≡ copiedTotal (now (ids .entry)) (now (kinds .entry)) (now (classes .entry)) (now (starts .entry)) (idsOf (now (codes .entry)) (now («escape_places» .entry)) (now («escape_ids» .entry)) base) (now («class_kinds» .entry)) (now («slot_starts» .entry)) (now («slot_ends» .entry)) (now («slot_weak» .entry)) policy (length (now (ids .entry))) ⌝ }
+    requires { ⌜ ((o : ℕ) → o < length (now ids) → SlotsIn (now «class_kinds») (now «slot_starts») (now «slot_ends») (length (now «slot_weak»))
+        (length (now «slot_weak»)) (now kinds ! o) (now classes ! o) (now starts ! o)) ⌝ }
+    ensures { λ r. ⌜ r ≡ copiedTotal (entry ids) (entry kinds) (entry classes) (entry starts)
+        (idsOf (entry codes) (entry «escape_places») (entry «escape_ids») base) (entry «class_kinds») (entry «slot_starts») (entry «slot_ends»)
+        (entry «slot_weak») policy (length (entry ids)) ⌝ }
 {
     let mut n: usize = 0;
     let mut o = 0;

@@ -5,6 +5,7 @@ ghost use Prim.Native.Nat.{ℕ, _+_, _≤_, _<_};
 ghost use lib.Dec.{eqb};
 ghost use lib.ListN.{length};
 ghost use Rattle.columns.specs.Lists.{_!_, one, total, any};
+ghost use Rattle.columns.specs.Loans.{entry};
 ghost use Rattle.edge_append.specs.Held.{SlotsIn};
 ghost use Rattle.need_weak.specs.Pairs.{Few, weakAt, plainWeak, mostPairs, mostWeak};
 
@@ -18,7 +19,7 @@ fn one_weak(weak: u8) -> usize
 // The weak slots of the first `count` from `first` on.
 fn slots(slot_weak: &[u8], first: usize, count: usize) -> usize
     requires { ⌜ first + count ≤ length (now «slot_weak») ⌝ }
-    ensures { λ r. ⌜ Few (total (weakAt (now («slot_weak» .entry)) first) count) count r ⌝ }
+    ensures { λ r. ⌜ Few (total (weakAt (entry «slot_weak») first) count) count r ⌝ }
 {
     let mut n = 0;
     let mut k = 0;
@@ -38,7 +39,7 @@ fn class_weak(
     class: usize,
 ) -> bool
     requires { ⌜ class < length (now «class_kinds») ⌝ }
-    ensures { λ r. ⌜ r ≡ plainWeak (now («class_kinds» .entry)) (now («slot_starts» .entry)) (now («slot_ends» .entry)) (now («slot_weak» .entry)) class ⌝ }
+    ensures { λ r. ⌜ r ≡ plainWeak (entry «class_kinds») (entry «slot_starts») (entry «slot_ends») (entry «slot_weak») class ⌝ }
 {
     if class_kinds[class] != rules::RefKind::NONE {
         return false;
@@ -62,7 +63,7 @@ fn class_weak(
 
 // Whether any class is: hardly ever, and then most instances need no look at their slots.
 fn plain_weak(class_kinds: &[u8], slot_starts: &[u32], slot_ends: &[u32], slot_weak: &[u8]) -> bool
-    ensures { λ r. ⌜ r ≡ any (plainWeak (now («class_kinds» .entry)) (now («slot_starts» .entry)) (now («slot_ends» .entry)) (now («slot_weak» .entry))) (length (now («class_kinds» .entry))) ⌝ }
+    ensures { λ r. ⌜ r ≡ any (plainWeak (entry «class_kinds») (entry «slot_starts») (entry «slot_ends») (entry «slot_weak»)) (length (entry «class_kinds»)) ⌝ }
 {
     let mut class = 0;
     while class < class_kinds.len() {
@@ -98,7 +99,7 @@ fn object(
 ) -> usize
     requires { ⌜ SlotsIn (now «class_kinds») (now «slot_starts») (now «slot_ends») (length (now «slot_weak»)) (length (now «slot_weak»)) kind class 0 ⌝ }
     requires { ⌜ mixed ≡ any (plainWeak (now «class_kinds») (now «slot_starts») (now «slot_ends») (now «slot_weak»)) (length (now «class_kinds»)) ⌝ }
-    ensures { λ r. ⌜ Few (mostPairs (now («class_kinds» .entry)) (now («slot_starts» .entry)) (now («slot_ends» .entry)) (now («slot_weak» .entry)) policy kind class) (length (now («slot_weak» .entry))) r ⌝ }
+    ensures { λ r. ⌜ Few (mostPairs (entry «class_kinds») (entry «slot_starts») (entry «slot_ends») (entry «slot_weak») policy kind class) (length (entry «slot_weak»)) r ⌝ }
 {
     if kind != rules::Kind::INSTANCE {
         return 0;
@@ -125,8 +126,9 @@ pub fn most_weak(
     policy: rules::ReferencePolicy,
 ) -> usize
     requires { ⌜ (length (now kinds) ≤ 67108864) × (length (now kinds) ≤ length (now classes)) × (length (now «slot_weak») ≤ 268435456) ⌝ }
-    requires { ⌜ ((o : ℕ) → o < length (now kinds) → SlotsIn (now «class_kinds») (now «slot_starts») (now «slot_ends») (length (now «slot_weak»)) (length (now «slot_weak»)) (now kinds ! o) (now classes ! o) 0) ⌝ }
-    ensures { λ r. ⌜ r ≡ mostWeak (now (kinds .entry)) (now (classes .entry)) (now («class_kinds» .entry)) (now («slot_starts» .entry)) (now («slot_ends» .entry)) (now («slot_weak» .entry)) policy (length (now (kinds .entry))) ⌝ }
+    requires { ⌜ ((o : ℕ) → o < length (now kinds) → SlotsIn (now «class_kinds») (now «slot_starts») (now «slot_ends») (length (now «slot_weak»))
+        (length (now «slot_weak»)) (now kinds ! o) (now classes ! o) 0) ⌝ }
+    ensures { λ r. ⌜ r ≡ mostWeak (entry kinds) (entry classes) (entry «class_kinds») (entry «slot_starts») (entry «slot_ends») (entry «slot_weak») policy (length (entry kinds)) ⌝ }
 {
     let mixed = plain_weak(class_kinds, slot_starts, slot_ends, slot_weak);
     let mut n: usize = 0;

@@ -9,6 +9,7 @@ ghost use lib.Dec.{ltb};
 ghost use lib.ListN.{length};
 ghost use Rattle.columns.specs.Lists.{tab, _!_};
 ghost use Rattle.columns.specs.Ranks.{Rises};
+ghost use Rattle.columns.specs.Loans.{entry};
 ghost use Rattle.edge_append.specs.Held.{SlotsIn};
 ghost use Rattle.edge_append.specs.Raw.{rawSlot, slotsRead, BodyIn};
 ghost use Rattle.need_weak.specs.Pairs.{pairsIn, Few, rawPairs, rawTotal, ObjectsIn};
@@ -36,7 +37,8 @@ fn slots(
     guess: usize,
 ) -> usize
     requires { ⌜ Rises (now ids) × (first + count ≤ length (now «slot_offsets»)) × (first + count ≤ length (now «slot_weak»)) × BodyIn (length (now bytes)) size start body ⌝ }
-    ensures { λ r. ⌜ Few (pairsIn (now (ids .entry)) (tab (rawSlot (now (bytes .entry)) size start (now («slot_offsets» .entry)) [] (now («slot_weak» .entry)) false first) (slotsRead (now («slot_offsets» .entry)) size body first count))) count r ⌝ }
+    ensures { λ r. ⌜ Few (pairsIn (entry ids) (tab (rawSlot (entry bytes) size start (entry «slot_offsets») [] (entry «slot_weak») false first)
+        (slotsRead (entry «slot_offsets») size body first count))) count r ⌝ }
 {
     let mut n = 0;
     let mut k = 0;
@@ -75,7 +77,8 @@ fn object(
 ) -> usize
     requires { ⌜ Rises (now ids) × SlotsIn (now «class_kinds») (now «slot_starts») (now «slot_ends») (length (now «slot_offsets»)) (length (now «slot_weak»)) kind class 0 ⌝ }
     requires { ⌜ (kind ≡ 0 → BodyIn (length (now bytes)) size start body) ⌝ }
-    ensures { λ r. ⌜ Few (rawPairs (now (ids .entry)) (now (bytes .entry)) size start body (now («class_kinds» .entry)) (now («slot_starts» .entry)) (now («slot_ends» .entry)) (now («slot_offsets» .entry)) (now («slot_weak» .entry)) policy kind class) (length (now («slot_weak» .entry))) r ⌝ }
+    ensures { λ r. ⌜ Few (rawPairs (entry ids) (entry bytes) size start body (entry «class_kinds») (entry «slot_starts») (entry «slot_ends»)
+        (entry «slot_offsets») (entry «slot_weak») policy kind class) (length (entry «slot_weak»)) r ⌝ }
 {
     if kind != rules::Kind::INSTANCE {
         return 0;
@@ -116,9 +119,11 @@ pub fn count_weak_raw(
     policy: rules::ReferencePolicy,
 ) -> usize
     requires { ⌜ ObjectsIn (now ids) (now kinds) (now classes) (now starts) × (length (now ids) ≤ length (now bodies)) × (length (now «slot_weak») ≤ 268435456) ⌝ }
-    requires { ⌜ ((o : ℕ) → o < length (now ids) → SlotsIn (now «class_kinds») (now «slot_starts») (now «slot_ends») (length (now «slot_offsets»)) (length (now «slot_weak»)) (now kinds ! o) (now classes ! o) 0) ⌝ }
+    requires { ⌜ ((o : ℕ) → o < length (now ids) → SlotsIn (now «class_kinds») (now «slot_starts») (now «slot_ends») (length (now «slot_offsets»))
+        (length (now «slot_weak»)) (now kinds ! o) (now classes ! o) 0) ⌝ }
     requires { ⌜ ((o : ℕ) → o < length (now ids) → now kinds ! o ≡ 0 → BodyIn (length (now bytes)) size (now starts ! o) (now bodies ! o)) ⌝ }
-    ensures { λ r. ⌜ r ≡ rawTotal (now (ids .entry)) (now (kinds .entry)) (now (classes .entry)) (now (starts .entry)) (now (bodies .entry)) (now (bytes .entry)) size (now («class_kinds» .entry)) (now («slot_starts» .entry)) (now («slot_ends» .entry)) (now («slot_offsets» .entry)) (now («slot_weak» .entry)) policy (length (now (ids .entry))) ⌝ }
+    ensures { λ r. ⌜ r ≡ rawTotal (entry ids) (entry kinds) (entry classes) (entry starts) (entry bodies) (entry bytes) size (entry «class_kinds»)
+        (entry «slot_starts») (entry «slot_ends») (entry «slot_offsets») (entry «slot_weak») policy (length (entry ids)) ⌝ }
 {
     let mut n: usize = 0;
     let mut o = 0;

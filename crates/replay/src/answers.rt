@@ -149,7 +149,7 @@ fn field_answers(
         let o = pairs[2 * i];
         let l = pairs[2 * i + 1];
         question(b"  field ", o, l);
-        show_field(ask_graph::field::field(
+        show_field(ask_field::field(
             bases,
             short,
             long_at,
@@ -187,7 +187,7 @@ fn referent_answers(
         let o = pairs[2 * i];
         let l = pairs[2 * i + 1];
         question(b"  referent ", o, l);
-        show_referent(ask_graph::field::referent(
+        show_referent(ask_field::referent(
             bases,
             short,
             long_at,
@@ -224,7 +224,7 @@ fn label_answers(
         let o = pairs[2 * i];
         let t = pairs[2 * i + 1];
         question_of(b"  label_of ", o, t);
-        show_label_of(ask_graph::label::label_of(
+        show_label_of(ask_label::label_of(
             bases,
             short,
             long_at,

@@ -181,12 +181,12 @@ pub(crate) fn object(
 ) {
     print::word(b"  object ");
     print::number(o as u64);
-    let at = ask_graph::span(bases, short, long_at, long_value, codes, targets, o);
+    let at = ask_span::span(bases, short, long_at, long_value, codes, targets, o);
     show_span(at);
     print::word(b" edges");
     edges(targets, codes, fields, escape_at, escape_label, at, o);
     show_weak(
         weak_to,
-        ask_graph::weak_referents(short, weak_from, weak_to, o),
+        ask_span::weak_referents(short, weak_from, weak_to, o),
     );
 }

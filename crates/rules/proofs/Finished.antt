@@ -62,7 +62,7 @@ module _ (x : Input) where
   weak-even = length-map (weakPairs x) _ ∙ sym (length-map (weakPairs x) _)
 
   module _ (h : Passed x) where
-    labels-few : length (graph x .labels) < 2 ^ 64
+    pub labels-few : length (graph x .labels) < 2 ^ 64
     labels-few = omega (arith, edges-few x h, build-meets x h .counted)
 
     abbrev c : Columns

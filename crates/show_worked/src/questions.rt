@@ -7,8 +7,8 @@ use rules::LabelOf;
 use rules::Referent;
 use rules::Span;
 
-fn ask_field(object: usize, label: u32) -> Field {
-    ask_graph::field::field(
+fn asked_field(object: usize, label: u32) -> Field {
+    ask_field::field(
         &[0],
         &[0, 1, 1, 2, 4],
         &[],
@@ -24,8 +24,8 @@ fn ask_field(object: usize, label: u32) -> Field {
     )
 }
 
-fn ask_referent(object: usize, label: u32) -> Referent {
-    ask_graph::field::referent(
+fn asked_referent(object: usize, label: u32) -> Referent {
+    ask_field::referent(
         &[0],
         &[0, 1, 1, 2, 4],
         &[],
@@ -43,8 +43,8 @@ fn ask_referent(object: usize, label: u32) -> Referent {
     )
 }
 
-fn ask_label(object: usize, edge: usize) -> ExactLabel {
-    ask_graph::label::exact_label(
+fn asked_label(object: usize, edge: usize) -> ExactLabel {
+    ask_label::exact_label(
         &[0],
         &[0, 1, 1, 2, 4],
         &[],
@@ -59,8 +59,8 @@ fn ask_label(object: usize, edge: usize) -> ExactLabel {
     )
 }
 
-fn ask_label_of(object: usize, target: u32) -> LabelOf {
-    ask_graph::label::label_of(
+fn asked_label_of(object: usize, target: u32) -> LabelOf {
+    ask_label::label_of(
         &[0],
         &[0, 1, 1, 2, 4],
         &[],
@@ -75,8 +75,8 @@ fn ask_label_of(object: usize, target: u32) -> LabelOf {
     )
 }
 
-fn ask_span(object: usize) -> Span {
-    ask_graph::span(
+fn asked_span(object: usize) -> Span {
+    ask_span::span(
         &[0],
         &[0, 1, 1, 2, 4],
         &[],
@@ -87,7 +87,7 @@ fn ask_span(object: usize) -> Span {
     )
 }
 
-fn ask_edge(at: Span, object: usize, k: usize, expected: u32) -> NextEdge {
+fn asked_edge(at: Span, object: usize, k: usize, expected: u32) -> NextEdge {
     ask_edges::edge_of(
         &[1, 0, 0, 2],
         &[0, 32769, 2, 3],
@@ -134,12 +134,12 @@ fn behind(edge: NextEdge) -> u32 {
 // Three turns of the reader of an object's edges.
 fn show_edges(question: &[u8], object: usize) {
     print::word(question);
-    let at = ask_span(object);
-    let first = ask_edge(at, object, 0, 0);
+    let at = asked_span(object);
+    let first = asked_edge(at, object, 0, 0);
     show_edge(first);
-    let second = ask_edge(at, object, 1, behind(first));
+    let second = asked_edge(at, object, 1, behind(first));
     show_edge(second);
-    show_edge(ask_edge(at, object, 2, behind(second)));
+    show_edge(asked_edge(at, object, 2, behind(second)));
 }
 
 fn show_field(question: &[u8], answer: Field) {
@@ -185,25 +185,25 @@ pub(crate) fn show() {
     print::word(b"\n(i) fields, found by their codes\n");
     show_field(
         b"  field(2, ARRAY_ELEMENT):",
-        ask_field(2, Label::ARRAY_ELEMENT),
+        asked_field(2, Label::ARRAY_ELEMENT),
     );
     show_field(
         b"  field(2, ARRAY_ELEMENT + 1):",
-        ask_field(2, Label::ARRAY_ELEMENT + 1),
+        asked_field(2, Label::ARRAY_ELEMENT + 1),
     );
-    show_field(b"  field(3, LOADER):", ask_field(3, Label::LOADER));
-    show_field(b"  field(3, 3), the name count:", ask_field(3, 3));
-    show_field(b"  field(4, 0):", ask_field(4, 0));
+    show_field(b"  field(3, LOADER):", asked_field(3, Label::LOADER));
+    show_field(b"  field(3, 3), the name count:", asked_field(3, 3));
+    show_field(b"  field(4, 0):", asked_field(4, 0));
     print::word(b"\n(j) a weak referent, where there is no such field\n");
-    show_referent(b"  referent(1, 1):", ask_referent(1, 1));
-    show_referent(b"  referent(0, 0):", ask_referent(0, 0));
-    show_referent(b"  referent(0, 1):", ask_referent(0, 1));
+    show_referent(b"  referent(1, 1):", asked_referent(1, 1));
+    show_referent(b"  referent(0, 0):", asked_referent(0, 0));
+    show_referent(b"  referent(0, 1):", asked_referent(0, 1));
     print::word(b"\nexact labels of edges, and of the first edge to a target\n");
-    show_label(b"  exact_label(2, 0):", ask_label(2, 0));
-    show_label(b"  exact_label(3, 1):", ask_label(3, 1));
-    show_label(b"  exact_label(3, 2):", ask_label(3, 2));
-    show_label_of(b"  label_of(3, 2):", ask_label_of(3, 2));
-    show_label_of(b"  label_of(3, 1):", ask_label_of(3, 1));
+    show_label(b"  exact_label(2, 0):", asked_label(2, 0));
+    show_label(b"  exact_label(3, 1):", asked_label(3, 1));
+    show_label(b"  exact_label(3, 2):", asked_label(3, 2));
+    show_label_of(b"  label_of(3, 2):", asked_label_of(3, 2));
+    show_label_of(b"  label_of(3, 1):", asked_label_of(3, 1));
     print::word(b"\nedges in order, through the reader\n");
     show_edges(b"  of object 3:\n", 3);
     show_edges(b"  of object 2:\n", 2);

@@ -2,6 +2,7 @@
 mod step;
 
 ghost use lib.ListN.{length};
+ghost use Rattle.columns.specs.Loans.{entry, exit};
 ghost use Rattle.slot_rows.specs.Rows.{Filling, rowsOf};
 
 // One slot of a class, as a host lends it.
@@ -27,7 +28,8 @@ pub fn fill_columns(
     labels: &mut [u32],
     weak: &mut [u8],
 ) -> Filled
-    ensures { λ r. ⌜ Filling (rowsOf (now («from_offsets» .entry)) (now («from_labels» .entry)) (now («from_weak» .entry))) (length (now (offsets .entry))) (length (now (labels .entry))) (length (now (weak .entry))) r (now (offsets .exit)) (now (labels .exit)) (now (weak .exit)) ⌝ }
+    ensures { λ r. ⌜ Filling (rowsOf (entry «from_offsets») (entry «from_labels») (entry «from_weak»)) (length (entry offsets))
+        (length (entry labels)) (length (entry weak)) r (exit offsets) (exit labels) (exit weak) ⌝ }
 {
     let n = step::row_count(from_offsets.len(), from_labels.len(), from_weak.len());
     let room = step::room_for(n, offsets.len(), labels.len(), weak.len());
@@ -44,7 +46,7 @@ pub fn fill_rows(
     labels: &mut [u32],
     weak: &mut [u8],
 ) -> Filled
-    ensures { λ r. ⌜ Filling (now (rows .entry)) (length (now (offsets .entry))) (length (now (labels .entry))) (length (now (weak .entry))) r (now (offsets .exit)) (now (labels .exit)) (now (weak .exit)) ⌝ }
+    ensures { λ r. ⌜ Filling (entry rows) (length (entry offsets)) (length (entry labels)) (length (entry weak)) r (exit offsets) (exit labels) (exit weak) ⌝ }
 {
     let n = rows.len();
     let room = step::room_for(n, offsets.len(), labels.len(), weak.len());

@@ -10,7 +10,7 @@ use Rattle.rules.specs.declared.ExactLabel.the-variants as ExactLabel
 use Rattle.rules.specs.declared.LabelOf.{LabelOf}
 use Rattle.rules.specs.declared.LabelOf.the-variants as LabelOf
 use Rattle.rules.specs.Types.{exactSays, labelOfSays}
-use Rattle.ask_graph.specs.Labelled.{Labelled}
+use Rattle.ask_label.specs.Labelled.{Labelled}
 use Rattle.answer_numbers.specs.Told.{told}
 use Rattle.yokefathom.specs.Calls.{heard}
 

@@ -3,13 +3,15 @@ use rules::Span;
 ghost use mathlib.Core.Path.{_≡_};
 ghost use mathlib.Core.List.{[], _∷_};
 ghost use lib.ListN.{length};
-ghost use Rattle.store.specs.Blocked.{blockedOf};
+ghost use Rattle.columns.specs.Loans.{entry, exit};
+ghost use Rattle.rules.specs.Tables.{offsetColumns};
 ghost use Rattle.rules.specs.Questions.{exactOf, labelOf};
-ghost use Rattle.ask_graph.specs.Reading.{spanOf, countOf, weakOf};
-ghost use Rattle.ask_graph.specs.Labelled.{graphOf, spanIn, edgeAsked, coarseAt, Labelled};
-ghost use Rattle.ask_graph.specs.Sought.{fieldFound, referentFound};
-ghost use Rattle.ask_short.specs.Lean.{shortOf, leanOf, plainBack, labelFound};
-ghost use Rattle.ask_edges.specs.Read.{nextOf};
+ghost use Rattle.ask_span.specs.Reading.{spanOf, countOf, weakRowsOf};
+ghost use Rattle.ask_span.specs.Graph.{graphColumns, edgeColumns, spanIn};
+ghost use Rattle.ask_label.specs.Labelled.{edgeAsked, coarseAt, Labelled};
+ghost use Rattle.ask_field.specs.Sought.{fieldFound, referentFound};
+ghost use Rattle.ask_short.specs.Lean.{shortOf, leanColumns, leanEdges, plainBack, labelFound};
+ghost use Rattle.ask_edges.specs.Read.{edgeNext};
 ghost use Rattle.answer_numbers.specs.Told.{told, spanNumber, replyOf, labelNext};
 ghost use Rattle.yokefathom.specs.Calls.{heard};
 
@@ -25,9 +27,9 @@ pub extern "C" fn yokefathom_span(
     targets: &[u32],
     answer: &mut [u64; 4],
 )
-    ensures { λ _. ⌜ now (answer .exit) ≡ told 4 (spanOf (blockedOf (now (bases .entry)) (now (short .entry)) (now («long_at» .entry)) (now («long_value» .entry))) (length (now (codes .entry))) (length (now (targets .entry))) object) ⌝ }
+    ensures { λ _. ⌜ exit answer ≡ told 4 (spanOf (offsetColumns entry bases short «long_at» «long_value») (length (entry codes)) (length (entry targets)) object) ⌝ }
 {
-    let found = ask_graph::span(bases, short, long_at, long_value, codes, targets, object);
+    let found = ask_span::span(bases, short, long_at, long_value, codes, targets, object);
     let says = answer_numbers::span(found);
     *answer = says;
 }
@@ -44,9 +46,9 @@ pub extern "C" fn yokefathom_edge_count(
     targets: &[u32],
     answer: &mut [u64; 4],
 )
-    ensures { λ _. ⌜ now (answer .exit) ≡ told 4 (countOf (spanOf (blockedOf (now (bases .entry)) (now (short .entry)) (now («long_at» .entry)) (now («long_value» .entry))) (length (now (codes .entry))) (length (now (targets .entry))) object)) ⌝ }
+    ensures { λ _. ⌜ exit answer ≡ told 4 (countOf (spanOf (offsetColumns entry bases short «long_at» «long_value») (length (entry codes)) (length (entry targets)) object)) ⌝ }
 {
-    let found = ask_graph::edge_count(bases, short, long_at, long_value, codes, targets, object);
+    let found = ask_span::edge_count(bases, short, long_at, long_value, codes, targets, object);
     let says = answer_numbers::edge_count(found);
     *answer = says;
 }
@@ -60,9 +62,9 @@ pub extern "C" fn yokefathom_weak_referents(
     weak_to: &[u32],
     answer: &mut [u64; 4],
 )
-    ensures { λ _. ⌜ now (answer .exit) ≡ told 4 (weakOf (length (now (short .entry))) (now («weak_from» .entry)) (now («weak_to» .entry)) object) ⌝ }
+    ensures { λ _. ⌜ exit answer ≡ told 4 (weakRowsOf (length (entry short)) (entry «weak_from») (entry «weak_to») object) ⌝ }
 {
-    let found = ask_graph::weak_referents(short, weak_from, weak_to, object);
+    let found = ask_span::weak_referents(short, weak_from, weak_to, object);
     let says = answer_numbers::weak_referents(found);
     *answer = says;
 }
@@ -83,9 +85,11 @@ pub extern "C" fn yokefathom_coarse_label(
     escape_label: &[u32],
     answer: &mut [u64; 4],
 )
-    ensures { λ _. ⌜ now (answer .exit) ≡ told 4 (coarseAt (graphOf (now (bases .entry)) (now (short .entry)) (now («long_at» .entry)) (now («long_value» .entry)) (now (codes .entry)) (now (targets .entry)) (now (fields .entry)) (now («escape_at» .entry)) (now («escape_label» .entry)) [] []) object edge) ⌝ }
+    ensures { λ _. ⌜ (
+        let graph = edgeColumns entry bases short «long_at» «long_value» codes targets fields «escape_at» «escape_label» in
+        exit answer ≡ told 4 (coarseAt graph object edge)) ⌝ }
 {
-    let found = ask_graph::label::coarse_label(
+    let found = ask_label::coarse_label(
         bases,
         short,
         long_at,
@@ -118,9 +122,11 @@ pub extern "C" fn yokefathom_exact_label(
     escape_label: &[u32],
     answer: &mut [u64; 4],
 )
-    ensures { λ _. ⌜ (now (answer .exit) ≡ told 4 (heard (now (answer .exit)))) × Labelled object (edgeAsked (spanIn (graphOf (now (bases .entry)) (now (short .entry)) (now («long_at» .entry)) (now («long_value» .entry)) (now (codes .entry)) (now (targets .entry)) (now (fields .entry)) (now («escape_at» .entry)) (now («escape_label» .entry)) [] []) object) edge) (heard (now (answer .exit))) (exactOf (graphOf (now (bases .entry)) (now (short .entry)) (now («long_at» .entry)) (now («long_value» .entry)) (now (codes .entry)) (now (targets .entry)) (now (fields .entry)) (now («escape_at» .entry)) (now («escape_label» .entry)) [] []) object edge) ⌝ }
+    ensures { λ _. ⌜ (
+        let graph = edgeColumns entry bases short «long_at» «long_value» codes targets fields «escape_at» «escape_label» in
+        (exit answer ≡ told 4 (heard (exit answer))) × Labelled object (edgeAsked (spanIn graph object) edge) (heard (exit answer)) (exactOf graph object edge)) ⌝ }
 {
-    let found = ask_graph::label::exact_label(
+    let found = ask_label::exact_label(
         bases,
         short,
         long_at,
@@ -153,9 +159,11 @@ pub extern "C" fn yokefathom_label_of(
     escape_label: &[u32],
     answer: &mut [u64; 4],
 )
-    ensures { λ _. ⌜ (now (answer .exit) ≡ told 4 (heard (now (answer .exit)))) × Labelled object (spanIn (graphOf (now (bases .entry)) (now (short .entry)) (now («long_at» .entry)) (now («long_value» .entry)) (now (codes .entry)) (now (targets .entry)) (now (fields .entry)) (now («escape_at» .entry)) (now («escape_label» .entry)) [] []) object) (heard (now (answer .exit))) (labelOf (graphOf (now (bases .entry)) (now (short .entry)) (now («long_at» .entry)) (now («long_value» .entry)) (now (codes .entry)) (now (targets .entry)) (now (fields .entry)) (now («escape_at» .entry)) (now («escape_label» .entry)) [] []) object target) ⌝ }
+    ensures { λ _. ⌜ (
+        let graph = edgeColumns entry bases short «long_at» «long_value» codes targets fields «escape_at» «escape_label» in
+        (exit answer ≡ told 4 (heard (exit answer))) × Labelled object (spanIn graph object) (heard (exit answer)) (labelOf graph object target)) ⌝ }
 {
-    let found = ask_graph::label::label_of(
+    let found = ask_label::label_of(
         bases,
         short,
         long_at,
@@ -189,9 +197,11 @@ pub extern "C" fn yokefathom_field(
     table: &[u16],
     answer: &mut [u64; 4],
 )
-    ensures { λ _. ⌜ now (answer .exit) ≡ told 4 (fieldFound (graphOf (now (bases .entry)) (now (short .entry)) (now («long_at» .entry)) (now («long_value» .entry)) (now (codes .entry)) (now (targets .entry)) (now (fields .entry)) (now («escape_at» .entry)) (now («escape_label» .entry)) [] []) (now (table .entry)) object label) ⌝ }
+    ensures { λ _. ⌜ (
+        let graph = edgeColumns entry bases short «long_at» «long_value» codes targets fields «escape_at» «escape_label» in
+        exit answer ≡ told 4 (fieldFound graph (entry table) object label)) ⌝ }
 {
-    let found = ask_graph::field::field(
+    let found = ask_field::field(
         bases,
         short,
         long_at,
@@ -228,9 +238,11 @@ pub extern "C" fn yokefathom_referent(
     weak_to: &[u32],
     answer: &mut [u64; 4],
 )
-    ensures { λ _. ⌜ now (answer .exit) ≡ told 4 (referentFound (graphOf (now (bases .entry)) (now (short .entry)) (now («long_at» .entry)) (now («long_value» .entry)) (now (codes .entry)) (now (targets .entry)) (now (fields .entry)) (now («escape_at» .entry)) (now («escape_label» .entry)) (now («weak_from» .entry)) (now («weak_to» .entry))) (now (table .entry)) object label) ⌝ }
+    ensures { λ _. ⌜ (
+        let graph = graphColumns entry bases short «long_at» «long_value» codes targets fields «escape_at» «escape_label» «weak_from» «weak_to» in
+        exit answer ≡ told 4 (referentFound graph (entry table) object label)) ⌝ }
 {
-    let found = ask_graph::field::referent(
+    let found = ask_field::referent(
         bases,
         short,
         long_at,
@@ -265,7 +277,8 @@ pub extern "C" fn yokefathom_edge(
     escape_label: &[u32],
     answer: &mut [u64; 5],
 )
-    ensures { λ _. ⌜ now (answer .exit) ≡ told 5 (nextOf (0 ∷ start ∷ end ∷ []) (now (targets .entry)) (now (codes .entry)) (now (fields .entry)) (now («escape_at» .entry)) (now («escape_label» .entry)) object k expected) ⌝ }
+    ensures { λ _. ⌜ exit answer ≡ told 5 (edgeNext (0 ∷ start ∷ end ∷ []) (entry targets) (entry codes)
+        (entry fields) (entry «escape_at») (entry «escape_label») object k expected) ⌝ }
 {
     let found = ask_edges::edge_of(
         targets,
@@ -291,7 +304,7 @@ pub extern "C" fn yokefathom_lean_span(
     codes: usize,
     targets: usize,
 ) -> u64
-    ensures { λ r. ⌜ r ≡ spanNumber (spanOf (shortOf (now (bases .entry)) (now (short .entry))) codes targets object) ⌝ }
+    ensures { λ r. ⌜ r ≡ spanNumber (spanOf (shortOf (entry bases) (entry short)) codes targets object) ⌝ }
 {
     let found = ask_short::span(bases, short, codes, targets, object);
     answer_numbers::span_number(found)
@@ -307,7 +320,7 @@ pub extern "C" fn yokefathom_lean_label_of(
     targets: &[u32],
     fields: &[u32],
 ) -> u64
-    ensures { λ r. ⌜ r ≡ replyOf (labelFound (leanOf (now (bases .entry)) (now (short .entry)) (now (codes .entry)) (now (targets .entry)) (now (fields .entry)) [] []) object target) ⌝ }
+    ensures { λ r. ⌜ r ≡ replyOf (labelFound (leanEdges entry bases short codes targets fields) object target) ⌝ }
 {
     let found = ask_short::label::label_of(bases, short, codes, targets, fields, object, target);
     answer_numbers::label_reply(found)
@@ -324,7 +337,7 @@ pub extern "C" fn yokefathom_lean_field(
     fields: &[u32],
     table: &[u16],
 ) -> u64
-    ensures { λ r. ⌜ r ≡ replyOf (fieldFound (leanOf (now (bases .entry)) (now (short .entry)) (now (codes .entry)) (now (targets .entry)) (now (fields .entry)) [] []) (now (table .entry)) object label) ⌝ }
+    ensures { λ r. ⌜ r ≡ replyOf (fieldFound (leanEdges entry bases short codes targets fields) (entry table) object label) ⌝ }
 {
     let found = ask_short::field::field(bases, short, codes, targets, fields, table, object, label);
     answer_numbers::field_reply(found)
@@ -343,7 +356,7 @@ pub extern "C" fn yokefathom_lean_referent(
     weak_from: &[u32],
     weak_to: &[u32],
 ) -> u64
-    ensures { λ r. ⌜ r ≡ replyOf (referentFound (leanOf (now (bases .entry)) (now (short .entry)) (now (codes .entry)) (now (targets .entry)) (now (fields .entry)) (now («weak_from» .entry)) (now («weak_to» .entry))) (now (table .entry)) object label) ⌝ }
+    ensures { λ r. ⌜ r ≡ replyOf (referentFound (leanColumns entry bases short codes targets fields «weak_from» «weak_to») (entry table) object label) ⌝ }
 {
     let found = ask_short::field::referent(
         bases,
@@ -363,7 +376,7 @@ pub extern "C" fn yokefathom_lean_referent(
 // The label that a code says by itself, where `expected` is what the edge before left behind, and what is expected behind this one.
 #[no_mangle]
 pub extern "C" fn yokefathom_lean_label(code: u16, expected: u32, fields: &[u32]) -> u64
-    ensures { λ r. ⌜ r ≡ labelNext expected (plainBack (now (fields .entry)) expected code) ⌝ }
+    ensures { λ r. ⌜ r ≡ labelNext expected (plainBack (entry fields) expected code) ⌝ }
 {
     let found = ask_short::label::read_code(code, expected, fields);
     answer_numbers::code_reply(found, expected)

@@ -1,5 +1,6 @@
 // The three slot columns of a schema from slot rows, which a host lends as columns.
 ghost use lib.ListN.{length};
+ghost use Rattle.columns.specs.Loans.{entry, exit};
 ghost use Rattle.slot_rows.specs.Rows.{left, rowsOf};
 ghost use Rattle.yokefathom.specs.Calls.{SlotsTold};
 
@@ -14,7 +15,10 @@ pub extern "C" fn yokefathom_fill_columns(
     weak: &mut [u8],
     answer: &mut [u64; 4],
 )
-    ensures { λ _. ⌜ SlotsTold (left (rowsOf (now («from_offsets» .entry)) (now («from_labels» .entry)) (now («from_weak» .entry))) (length (now (offsets .entry))) (length (now (labels .entry))) (length (now (weak .entry)))) (now (answer .exit)) (now (offsets .exit)) (now (labels .exit)) (now (weak .exit)) ⌝ }
+    ensures { λ _. ⌜ (
+        let rows = rowsOf (entry «from_offsets») (entry «from_labels») (entry «from_weak») in
+        let filled = left rows (length (entry offsets)) (length (entry labels)) (length (entry weak)) in
+        SlotsTold filled (exit answer) (exit offsets) (exit labels) (exit weak)) ⌝ }
 {
     let filled = slot_rows::fill_columns(
         from_offsets,

@@ -175,7 +175,9 @@ const SIZES: [u64; 4] = [250_000, 500_000, 1_000_000, 2_000_000];
 /// Time and peak memory of a build against the size of its input. Memory does not depend on where targets lie.
 pub fn growth() {
     midden::parallel::set_threads(1);
-    println!("| Build | objects | references | ours, least ms | median | ns a reference | peak MB | original, least ms | median | ns a reference | peak MB |");
+    println!(
+        "| Build | objects | references | ours, least ms | median | ns a reference | peak MB | original, least ms | median | ns a reference | peak MB |"
+    );
     println!("|---|---|---|---|---|---|---|---|---|---|---|");
     for near in [false, true] {
         for route in ROUTES {

@@ -75,9 +75,7 @@ impl Case {
                 base: self.base,
                 starts: &self.starts,
             },
-            Route::Raw => {
-                References::Raw { bytes: &self.bytes, id_size: self.id_size, starts: &self.body_starts, lengths: &self.bodies }
-            }
+            Route::Raw => References::Raw { bytes: &self.bytes, id_size: self.id_size, starts: &self.body_starts, lengths: &self.bodies },
         };
         Input {
             objects: Objects { ids: &self.ids, kinds: &self.kinds, classes: &self.classes, lengths: &self.lengths },

@@ -1,7 +1,7 @@
 //! One case, by one route, on both sides: the refusal or every column, the zeros behind them, ROOM, and the questions.
 use midden::graph as original;
-use yokefathom::room::Room;
-use yokefathom::{ARRAY_ELEMENT, Graph, LOADER, Refusal, build_into};
+use yokefathom::compare::{Room, Whole};
+use yokefathom::{ARRAY_ELEMENT, Account, Graph, LOADER, Refusal};
 
 use crate::case::{Case, Route};
 use crate::handed;
@@ -29,15 +29,15 @@ pub fn said(answer: &[u64]) -> Result<Vec<u64>, String> {
 }
 
 /// One build into columns that are full of something: what it says.
-fn build_spoiled(case: &Case, route: Route, room: &mut Room, random: &mut Random) -> Result<(Vec<u64>, yokefathom::Account), String> {
+fn build_spoiled(case: &Case, route: Route, room: &mut Room, random: &mut Random) -> Result<(Vec<u64>, Account), String> {
     let mut account = [[random.next(); 3]; 4];
-    let says = said(&build_into(&case.input(route), room, &mut account))?;
+    let says = said(&room.build(&case.input(route), &mut account))?;
     let used = if says[0] == 0 { Used::of(&says, case.ids.len(), case.names) } else { Used::default() };
     lent::ends_are_zero(lent::all(room, used, 0))?;
     if says[0] != 0 {
         same("account of a refusal", account, [[0; 3]; 4])?;
     }
-    Ok((says, account))
+    Ok((says, account.into()))
 }
 
 /// Cuts some buffers below their needs: the lowest of them is refused.
@@ -88,8 +88,8 @@ pub fn ask_field(ours: &Graph, theirs: &original::Graph, names: usize, object: u
     let refused = |e: Refusal| format!("field {object} {label}: {e}");
     tally.questions += 2;
     let (field, referent) = (ours.field(object, label).map_err(refused)?, ours.referent(object, label).map_err(refused)?);
-    same("field, the whole question", ours.whole_field(object, label), Ok(field))?;
-    same("referent, the whole question", ours.whole_referent(object, label), Ok(referent))?;
+    same("field, the whole question", Whole(ours).field(object, label), Ok(field))?;
+    same("referent, the whole question", Whole(ours).referent(object, label), Ok(referent))?;
     if label as usize == names {
         tally.name_count += 1;
         same("field of the name count", field, None)?;
@@ -102,7 +102,7 @@ pub fn ask_field(ours: &Graph, theirs: &original::Graph, names: usize, object: u
 pub fn ask_label(ours: &Graph, theirs: &original::Graph, object: u32, target: u32, tally: &mut Tally) -> Outcome {
     tally.questions += 1;
     let found = ours.label_of(object, target).map_err(|e| e.to_string())?;
-    same("label_of, the whole question", ours.whole_label_of(object, target), Ok(found))?;
+    same("label_of, the whole question", Whole(ours).label_of(object, target), Ok(found))?;
     same(&format!("label_of {object} {target}"), found, theirs.label_of(object, target))
 }
 
@@ -111,13 +111,13 @@ pub fn ask_edges(ours: &Graph, theirs: &original::Graph, object: u32, random: &m
     let refused = |e: Refusal| format!("object {object}: {e}");
     tally.questions += 5;
     same("span", ours.span(object).map_err(refused)?, theirs.span(object))?;
-    same("span, the whole question", ours.whole_span(object), Ok(theirs.span(object)))?;
+    same("span, the whole question", Whole(ours).span(object), Ok(theirs.span(object)))?;
     let weak: Vec<u32> = theirs.weak_referents(object).collect();
     same("weak referents", ours.weak_referents(object).map_err(refused)?, weak.as_slice())?;
     let (our, their) = (ours.edges(object).map_err(refused)?, theirs.edges(object));
     same("length", our.len(), their.len())?;
     same("degree", ours.degree(object), Ok(their.len()))?;
-    same("degree, the whole question", ours.whole_degree(object), Ok(their.len()))?;
+    same("degree, the whole question", Whole(ours).degree(object), Ok(their.len()))?;
     same("edges", our.iter().collect::<Vec<_>>(), their.iter().collect::<Vec<_>>())?;
     for k in 0..their.len() {
         if their.len() > 100 && !random.chance(their.len() as u64 / 20) {

@@ -166,7 +166,7 @@ fn route(imported: &Imported, route: Route, random: &mut Random, tally: &mut Tal
     }
     let policy = yokefathom::ReferencePolicy { soft: case.soft, weak: case.weak };
     println!(
-        "{route:?}, {policy:?}: {} edges, {} weak pairs, {} dangling, account {:?}",
+        "{route:?}, {policy:?}: {} edges, {} weak pairs, {} dangling\n{}",
         ours.edge_count(),
         ours.weak_edges().len(),
         ours.dangling,

@@ -1,7 +1,7 @@
 //! The limits of document 01, from few numbers: long columns of zeros that are only measured, and objects that share one part. What is just at a
 //! limit would take gigabytes to build, so it is lent no room, and ROOM says that the limit was not passed. The original has no limits.
-use yokefathom::room::{CodedRoom, Room};
-use yokefathom::{Parts, build_into, parts_into};
+use yokefathom::Parts;
+use yokefathom::compare::{CodedRoom, Room};
 
 use crate::case::{Case, ROUTES, Route};
 use crate::check::{said, same};
@@ -120,7 +120,7 @@ fn lent_nothing(case: &Case, route: Route, tally: &mut Tally) -> Outcome {
         Some((number, place)) => vec![number, place],
         None => vec![9, if verdict::places(case, route) > 0 { 1 } else { 4 }],
     };
-    let says = said(&build_into(&case.input(route), &mut Room::default(), &mut [[1; 3]; 4]))?;
+    let says = said(&Room::default().build(&case.input(route), &mut [[1; 3]; 4]))?;
     tally.refused[expected[0] as usize] += 1;
     same("refusal", says, expected)
 }
@@ -130,7 +130,7 @@ fn handed(labels: usize, tally: &mut Tally) -> Outcome {
     let case = small::worked();
     let parts = Parts { offsets: &[1], labels: &vec![0; labels], ..Parts::default() };
     let expected = verdict::handed(&case, &parts).expect("a refusal");
-    let says = said(&parts_into(&case.schema(), &parts, &mut CodedRoom::default()))?;
+    let says = said(&CodedRoom::default().take_parts(&case.schema(), &parts))?;
     tally.handed_refused(&expected);
     same("refusal of from_parts", says, expected)
 }

@@ -94,7 +94,11 @@ fn put(body: &mut [u8], offset: usize, id: u64, size: usize) {
 }
 
 fn slots(random: &mut Random, names: u64, size: u32, all: bool) -> Vec<(u32, u32, bool)> {
-    let count = if all { names - random.below(3) } else if names == 0 { 0 } else { random.below(6) };
+    let count = match names {
+        _ if all => names - random.below(3),
+        0 => 0,
+        _ => random.below(6),
+    };
     let mut offset = random.below(5) as u32;
     (0..count)
         .map(|k| {
@@ -166,7 +170,11 @@ pub fn case(seed: u64, shape: Shape) -> Case {
         let at = random.below(count as u64) as usize;
         let free = count > 0 && (!dumped || (kinds[at] == 3 && taken.insert(at)));
         let stranger = if random.chance(3) { 0 } else { 1 + random.below(most - 1) };
-        let id = if free { ids[at] } else if ids.contains(&stranger) { 0 } else { stranger };
+        let id = match free {
+            true => ids[at],
+            false if ids.contains(&stranger) => 0,
+            false => stranger,
+        };
         let loader = reference(random, &ids, most);
         let all = shape == Shape::Fields && class == 0;
         let (slots, statics) = (slots(random, names, case.id_size as u32, all), statics(random, names, &ids, most));
@@ -223,6 +231,7 @@ pub fn damage(case: &mut Case, random: &mut Random) {
     }
 }
 
+/// One entry of a column changed, or the column made longer or shorter by one.
 fn hit<T: Copy>(column: &mut Vec<T>, random: &mut Random, values: &[T]) {
     if column.is_empty() || random.chance(12) {
         match random.chance(2) {
@@ -235,42 +244,53 @@ fn hit<T: Copy>(column: &mut Vec<T>, random: &mut Random, values: &[T]) {
     column[at] = if random.chance(3) { column[random.below(column.len() as u64) as usize] } else { random.pick(values) };
 }
 
+/// The same with a number just below, at or above a bound, before the other values.
+fn hit_near<T: Copy + From<u32>>(column: &mut Vec<T>, random: &mut Random, bound: usize, others: &[T]) {
+    let near = (bound as u64 + random.below(3)).saturating_sub(1) as u32;
+    hit(column, random, &[&[T::from(near)], others].concat());
+}
+
 fn damage_once(case: &mut Case, random: &mut Random) {
-    let near = |random: &mut Random, n: usize| (n as u64 + random.below(3)).saturating_sub(1) as u32;
     let any = random.next();
     let (ids, classes, slots, statics) = (case.ids.len(), case.class_ids.len(), case.slot_labels.len(), case.static_names.len());
     let names = case.names;
     match random.below(30) {
         0 => hit(&mut case.ids, random, &[0, 1, u64::MAX, any]),
         1 => hit(&mut case.kinds, random, &[0, 1, 2, 3, 4, 255]),
-        2 => { let n = near(random, classes); hit(&mut case.classes, random, &[n, u32::MAX]) }
+        2 => hit_near(&mut case.classes, random, classes, &[u32::MAX]),
         3 => hit(&mut case.lengths, random, &[0, 1, 268_435_456, 268_435_457, u32::MAX]),
-        4 => { let id = case.ids.get(random.below(ids as u64) as usize).copied().unwrap_or(5); hit(&mut case.class_ids, random, &[id, 0]) }
+        4 => {
+            let id = case.ids.get(random.below(ids as u64) as usize).copied().unwrap_or(5);
+            hit(&mut case.class_ids, random, &[id, 0])
+        }
         5 => hit(&mut case.loaders, random, &[0, any]),
         6 => hit(&mut case.dumped, random, &[0, 1, 2]),
         7 => hit(&mut case.class_kinds, random, &[0, 1, 2, 3, 4, 5]),
-        8 => { let n = near(random, slots); hit(&mut case.slot_starts, random, &[n, 0, u32::MAX]) }
-        9 => { let n = near(random, slots); hit(&mut case.slot_ends, random, &[n, 0, u32::MAX]) }
-        10 => { let n = near(random, statics); hit(&mut case.static_starts, random, &[n, 0, u32::MAX]) }
-        11 => { let n = near(random, statics); hit(&mut case.static_ends, random, &[n, 0, u32::MAX]) }
+        8 => hit_near(&mut case.slot_starts, random, slots, &[0, u32::MAX]),
+        9 => hit_near(&mut case.slot_ends, random, slots, &[0, u32::MAX]),
+        10 => hit_near(&mut case.static_starts, random, statics, &[0, u32::MAX]),
+        11 => hit_near(&mut case.static_ends, random, statics, &[0, u32::MAX]),
         12 => hit(&mut case.slot_offsets, random, &[0, 1, u32::MAX]),
-        13 => { let n = near(random, names); hit(&mut case.slot_labels, random, &[n, 0, u32::MAX]) }
+        13 => hit_near(&mut case.slot_labels, random, names, &[0, u32::MAX]),
         14 => hit(&mut case.slot_weak, random, &[0, 1, 2]),
-        15 => { let n = near(random, names); hit(&mut case.static_names, random, &[n, 0, u32::MAX]) }
+        15 => hit_near(&mut case.static_names, random, names, &[0, u32::MAX]),
         16 => hit(&mut case.static_types, random, &[2, 3, 1, 4, 11, 12, 0]),
         17 => hit(&mut case.static_values, random, &[0, any]),
         18 => case.names = random.pick(&[0, names.saturating_sub(1), 40_000, 16_777_217, usize::MAX]),
-        19 => { let n = near(random, ids); hit(&mut case.roots, random, &[n, u32::MAX]) }
+        19 => hit_near(&mut case.roots, random, ids, &[u32::MAX]),
         20 => hit(&mut case.codes, random, &[0, 1, u32::MAX, u32::MAX - 1, any as u32]),
-        21 => { let n = u64::from(near(random, case.codes.len())); hit(&mut case.escape_places, random, &[n, 0, u64::MAX]) }
+        21 => hit_near(&mut case.escape_places, random, case.codes.len(), &[0, u64::MAX]),
         22 => hit(&mut case.escape_ids, random, &[0, any]),
         23 => case.base = random.pick(&[0, u64::MAX, u64::MAX - 64, any]),
-        24 => { let n = near(random, case.codes.len()); hit(&mut case.starts, random, &[n, 0, u32::MAX]) }
-        25 => { case.bytes.truncate(random.below(case.bytes.len() as u64 + 1) as usize) }
+        24 => hit_near(&mut case.starts, random, case.codes.len(), &[0, u32::MAX]),
+        25 => case.bytes.truncate(random.below(case.bytes.len() as u64 + 1) as usize),
         26 => case.id_size = random.pick(&[0, 4, 8, 2, usize::MAX]),
-        27 => { let n = u64::from(near(random, case.bytes.len())); hit(&mut case.body_starts, random, &[n, 0, u64::MAX]) }
+        27 => hit_near(&mut case.body_starts, random, case.bytes.len(), &[0, u64::MAX]),
         28 => hit(&mut case.bodies, random, &[0, 1, u32::MAX]),
-        _ => { let at = random.below(case.codes.len() as u64) as usize; case.codes.truncate(at) }
+        _ => {
+            let at = random.below(case.codes.len() as u64) as usize;
+            case.codes.truncate(at)
+        }
     }
 }
 
@@ -325,7 +345,8 @@ pub fn parts(objects: usize, names: usize, random: &mut Random) -> OwnParts {
         parts.offsets.push(parts.labels.len() as u64);
     }
     if objects > 0 {
-        let mut weak: Vec<(u32, u32)> = (0..random.below(6)).map(|_| (random.below(objects) as u32, random.below(objects) as u32)).collect();
+        let mut weak: Vec<(u32, u32)> =
+            (0..random.below(6)).map(|_| (random.below(objects) as u32, random.below(objects) as u32)).collect();
         weak.sort_unstable();
         (parts.weak_from, parts.weak_to) = weak.into_iter().unzip();
         parts.roots = (0..random.below(6)).map(|_| random.below(objects) as u32).collect();

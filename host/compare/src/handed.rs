@@ -1,6 +1,6 @@
 //! `from_parts` on both sides: of a graph's own plain columns, of columns with any labels, gaps and targets, and of damaged ones.
-use yokefathom::room::CodedRoom;
-use yokefathom::{Graph, Parts, Schema, parts_into};
+use yokefathom::compare::CodedRoom;
+use yokefathom::{Graph, Parts, Schema};
 
 use crate::case::Case;
 use crate::check::{self, said, same};
@@ -13,7 +13,7 @@ use crate::verdict;
 
 /// One `from_parts` into columns that are full of something: what it says.
 fn hand_spoiled(schema: &Schema<'_>, parts: &Parts<'_>, room: &mut CodedRoom) -> Result<Vec<u64>, String> {
-    let says = said(&parts_into(schema, parts, room))?;
+    let says = said(&room.take_parts(schema, parts))?;
     let used = if says[0] == 0 { Used::of(&says, parts.offsets.len() - 1, schema.names) } else { Used::default() };
     lent::ends_are_zero(lent::coded(room, used))?;
     Ok(says)

@@ -1,5 +1,5 @@
 //! The columns lent to a call: filled with something before it, cut below their needs, and found zero behind what it used.
-use yokefathom::room::{CodedRoom, Room};
+use yokefathom::compare::{CodedRoom, Room};
 
 use crate::random::Random;
 

@@ -93,7 +93,8 @@ fn missing(loader: u64) -> Case {
 /// Classes that are dumped or not, among the objects or not, with statics of every type.
 fn classes() -> Case {
     let mut case = empty(12, 8);
-    let statics: Vec<(u32, u8, u64)> = [2, 4, 5, 6, 7, 8, 9, 10, 11].iter().map(|&kind| (u32::from(kind), kind, if kind == 2 { 16 } else { 1 })).collect();
+    let statics: Vec<(u32, u8, u64)> =
+        [2, 4, 5, 6, 7, 8, 9, 10, 11].iter().map(|&kind| (u32::from(kind), kind, if kind == 2 { 16 } else { 1 })).collect();
     case.class(16, 24, true, 0, &[], &statics);
     case.class(24, 24, false, 0, &[], &statics);
     case.class(77, 16, true, 0, &[], &statics);
@@ -220,7 +221,9 @@ fn accepted() -> Vec<(String, Case)> {
     let mut add = |title: &str, case: Case| all.push((title.to_string(), case));
     add("no objects", empty(0, 8));
     add("no objects, two names and a class", empty(2, 8).but(|case| case.class(8, 8, true, 0, &[(0, 1, false)], &[(0, 2, 8)])));
-    for (soft, weak, title) in [(false, false, "keeps neither"), (true, false, "keeps soft"), (false, true, "keeps weak"), (true, true, "keeps both")] {
+    for (soft, weak, title) in
+        [(false, false, "keeps neither"), (true, false, "keeps soft"), (false, true, "keeps weak"), (true, true, "keeps both")]
+    {
         add(&format!("worked dump, {title}"), worked().under(soft, weak));
         add(&format!("reference kinds, {title}"), kinds().under(soft, weak));
     }

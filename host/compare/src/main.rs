@@ -123,7 +123,9 @@ fn main() {
         // What `growth` starts for itself.
         (["peak", side, route, objects], ..) => return memory::run(side, route, objects.parse().expect("a number")),
         _ => {
-            eprintln!("compare random FIRST COUNT | graphs COUNT [FIRST] | small | limits | seconds N | dump FILE | list FOLDER | bench OBJECTS | growth");
+            eprintln!(
+                "compare random FIRST COUNT | graphs COUNT [FIRST] | small | limits | seconds N | dump FILE | list FOLDER | bench OBJECTS | growth"
+            );
             std::process::exit(2);
         }
     };

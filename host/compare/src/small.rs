@@ -128,7 +128,8 @@ const COLUMNS: [Replace; 29] = [
 
 /// Numbers at and about every limit that a small dump meets.
 const VALUES: [u64; 24] = [
-    0, 1, 2, 3, 4, 5, 8, 9, 11, 12, 24, 40, 255, 256, 257, 264, 512, 4096, 9999, 16_777_217, 268_435_457, 0xFFFF_FFFE, 0xFFFF_FFFF, u64::MAX,
+    0, 1, 2, 3, 4, 5, 8, 9, 11, 12, 24, 40, 255, 256, 257, 264, 512, 4096, 9999, 16_777_217, 268_435_457, 0xFFFF_FFFE, 0xFFFF_FFFF,
+    0xFFFF_FFFF_FFFF_FFFF,
 ];
 
 /// The longest column of the worked dump is its bytes.

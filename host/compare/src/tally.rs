@@ -50,7 +50,8 @@ impl Tally {
 
 /// Numbers that are not zero, each behind what it counts.
 fn counts(numbers: &[u64]) -> String {
-    let shown: Vec<String> = numbers.iter().enumerate().filter(|(_, count)| **count > 0).map(|(at, count)| format!("{at}: {count}")).collect();
+    let shown: Vec<String> =
+        numbers.iter().enumerate().filter(|(_, count)| **count > 0).map(|(at, count)| format!("{at}: {count}")).collect();
     shown.join(", ")
 }
 

@@ -117,11 +117,9 @@ pub fn input(title: &str, case: &Case, route: Route, rooms: &[Rooms], asked: &Qu
 pub fn needs(case: &Case, route: Route, graph: &Graph) -> Rooms {
     let (shown, places) = (graph.shown(), verdict::places(case, route) as usize);
     let (offsets, table, edges, weak) = (case.ids.len() + 1, case.names + 2, graph.all_targets().len(), graph.weak_edges().len());
-    let (long, escapes, roots) = (shown.long.len(), shown.escapes.len(), graph.roots.len());
-    [
-        places, places, weak, weak, roots, offsets, offsets.div_ceil(256), offsets, long, long, shown.fields.len(), table, escapes, escapes, edges,
-        table, table,
-    ]
+    let (bases, long, fields, escapes) = (offsets.div_ceil(256), shown.long.len(), shown.fields.len(), shown.escapes.len());
+    let roots = graph.roots.len();
+    [places, places, weak, weak, roots, offsets, bases, offsets, long, long, fields, table, escapes, escapes, edges, table, table]
 }
 
 fn label(label: u32) -> String {
@@ -216,9 +214,8 @@ fn done(out: &mut String, case: &Case, route: Route, graph: &Graph, rooms: &Room
             "done: edges {edges_in_all}, weak {weak}, roots {roots}, long {long}, fields {fields}, escapes {escapes}, dangling {dangling}"
         ),
     );
-    let account = verdict::account(case, route);
-    let row = |at: usize| account[at].map(|count| count.to_string()).join(" ");
-    line(out, format_args!("account: slot {}, element {}, static {}, loader {}", row(0), row(1), row(2), row(3)));
+    let rows = verdict::account(case, route).kinds().map(|(kind, row)| format!("{kind} {} {} {}", row.edges, row.weak, row.missing));
+    line(out, format_args!("account: {}", rows.join(", ")));
     columns(out, graph, rooms);
     for object in 0..graph.root {
         let span = graph.span(object);

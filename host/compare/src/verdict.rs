@@ -2,7 +2,7 @@
 //! The original checks nothing and has no account, so this is what these are compared with.
 use std::collections::HashSet;
 
-use yokefathom::{ARRAY_ELEMENT, LOADER, Parts};
+use yokefathom::{ARRAY_ELEMENT, Account, LOADER, Parts};
 
 use crate::case::{Case, Route};
 
@@ -91,8 +91,14 @@ fn equal(lengths: &[usize]) -> bool {
 /// The tables of the classes, which `from_parts` is lent too.
 fn schema_lengths_are_wrong(case: &Case) -> bool {
     let classes = [
-        case.class_ids.len(), case.loaders.len(), case.dumped.len(), case.class_kinds.len(),
-        case.slot_starts.len(), case.slot_ends.len(), case.static_starts.len(), case.static_ends.len(),
+        case.class_ids.len(),
+        case.loaders.len(),
+        case.dumped.len(),
+        case.class_kinds.len(),
+        case.slot_starts.len(),
+        case.slot_ends.len(),
+        case.static_starts.len(),
+        case.static_ends.len(),
     ];
     !equal(&classes)
         || !equal(&[case.slot_offsets.len(), case.slot_labels.len(), case.slot_weak.len()])
@@ -184,8 +190,8 @@ fn add(sum: &mut u64, one: bool) -> u64 {
 }
 
 /// What became of the references of a sound case: slot, element, static and loader, each by edge, weak and missing.
-pub fn account(case: &Case, route: Route) -> yokefathom::Account {
-    let mut account = [[0; 3]; 4];
+pub fn account(case: &Case, route: Route) -> Account {
+    let mut account = Account::default();
     let found = |id: u64| case.ids.binary_search(&id).is_ok();
     for o in 0..case.ids.len() {
         if case.kinds[o] > 1 {
@@ -207,16 +213,23 @@ pub fn account(case: &Case, route: Route) -> yokefathom::Account {
                 }
             };
             if id != 0 {
-                let outcome = if !found(id) { 2 } else { usize::from(kind == 0 && !kept(case, class, slot)) };
-                account[kind][outcome] += 1;
+                let row = if kind == 0 { &mut account.slots } else { &mut account.elements };
+                match found(id) {
+                    false => row.missing += 1,
+                    true if kind == 0 && !kept(case, class, slot) => row.weak += 1,
+                    true => row.edges += 1,
+                }
             }
         }
     }
     for c in found_classes(case) {
         for k in case.statics_of(c).filter(|&k| case.static_types[k] == 2 && case.static_values[k] != 0) {
-            account[2][if found(case.static_values[k]) { 0 } else { 2 }] += 1;
+            match found(case.static_values[k]) {
+                true => account.statics.edges += 1,
+                false => account.statics.missing += 1,
+            }
         }
-        account[3][0] += u64::from(found(case.loaders[c]));
+        account.loaders.edges += u64::from(found(case.loaders[c]));
     }
     account
 }

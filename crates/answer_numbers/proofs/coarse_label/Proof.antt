@@ -13,19 +13,8 @@ use Rattle.answer_numbers.proofs.coarse_label.Tie as tie
 abbrev numbers : CoarseLabel → List ℕ
 numbers a = told 4 (coarseSays a)
 
-returns : tie.Need-returns
-unfolding told padded over
-returns c = sym (ap numbers (c .before .before .a .given .1))
-
-returns-2 : tie.Need-returns-2
-unfolding told padded over
-returns-2 c = sym (ap numbers (c .before .a2 .given .1))
-
-returns-3 : tie.Need-returns-3
-unfolding told padded over
-returns-3 c = sym (ap numbers (c .before .a3 .given .1))
-
 pub coarse-label-spec : {M : Type 1} → statement M
+unfolding told padded over
 coarse-label-spec =
     tie.close
     (tie.spec
@@ -33,6 +22,6 @@ coarse-label-spec =
     (λ c. search needs)
     (λ c. search needs)
     (λ c. search needs)
-    returns
-    returns-2
-    returns-3)
+    (λ c. sym (ap numbers (c .before .before .a .given .1)))
+    (λ c. sym (ap numbers (c .before .a2 .given .1)))
+    (λ c. sym (ap numbers (c .before .a3 .given .1))))

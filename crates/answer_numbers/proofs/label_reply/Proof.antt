@@ -12,23 +12,8 @@ use Rattle.answer_numbers.proofs.label_reply.Tie as tie
 abbrev numbers : LabelOf → ℕ
 numbers a = replyOf (labelOfSays a)
 
-returns : tie.Need-returns
-unfolding replyOf accepts
-returns c = ap (λ (k : ℕ). k + 2) (c .wide .ensures) ∙ sym (ap numbers (c .before .before .a .given .1))
-
-returns-2 : tie.Need-returns-2
-unfolding replyOf accepts
-returns-2 c = sym (ap numbers (c .enum-told .given .1))
-
-returns-3 : tie.Need-returns-3
-unfolding replyOf accepts
-returns-3 c = sym (ap numbers (c .enum-told2 .given .1))
-
-returns-4 : tie.Need-returns-4
-unfolding replyOf accepts
-returns-4 c = sym (ap numbers (c .enum-told3 .given .1))
-
 pub label-reply-spec : {M : Type 1} → statement M
+unfolding replyOf accepts
 label-reply-spec =
     tie.close
     (tie.spec
@@ -38,7 +23,7 @@ label-reply-spec =
     (λ c. search needs)
     (λ c. search needs)
     (λ c. search needs)
-    returns
-    returns-2
-    returns-3
-    returns-4)
+    (λ c. ap (λ (k : ℕ). k + 2) (c .wide .ensures) ∙ sym (ap numbers (c .before .before .a .given .1)))
+    (λ c. sym (ap numbers (c .enum-told .given .1)))
+    (λ c. sym (ap numbers (c .enum-told2 .given .1)))
+    (λ c. sym (ap numbers (c .enum-told3 .given .1))))

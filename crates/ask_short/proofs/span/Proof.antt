@@ -3,7 +3,7 @@ use Prim.Native.Nat.{_-_, _≤_, _<_}
 use native.Mathlib.Omega.{arith}
 use borrow.Author.Tests.{lt-ltb, le-ltb}
 use lib.ListN.{length}
-use Rattle.ask_graph.specs.Reading.{spanOf}
+use Rattle.ask_span.specs.Reading.{spanOf}
 use borrow.Author.Needs.{needs}
 use Rattle.ask_short.proofs.span.Statement.{statement}
 use Rattle.ask_short.proofs.span.Tie as tie

@@ -1,14 +1,112 @@
 -- `build::code_used` meets its contract. The fronts are cut at what there is. Assumes nothing.
 use Prim.Native.Nat.{ℕ, _+_, min}
-use mathlib.Core.Path.{sym, ap, _∙_}
-use lib.ListN.{length}
+use mathlib.Core.Path.{_≡_, sym, ap, _∙_}
+use lib.ListN.{length, take}
 use lib.Seq.{length-take-le}
+use denote.Ref.{now}
 use Rattle.rules.specs.Types.{builtSays}
 use Rattle.build_rooms.specs.Stages.{kept}
+use Rattle.build.specs.Build.{offsetsUsed, labelsUsed}
 use Rattle.build.proofs.Fronts.{take-least, ready-used, coding-used}
 use borrow.Author.Needs.{needs}
 use Rattle.build.proofs.code_used.Statement.{statement}
 use Rattle.build.proofs.code_used.Tie as tie
+
+-- The places, back from the end: behind each call, and the start.
+abbrev from-end : tie.After-slice-known22 → tie.After-code-parts
+from-end c =
+    c .before .before .before .before .before .before .before .before .before .before
+    .before .before .before .before .before .before .before .before .before .before
+    .before .before
+
+abbrev from-code-parts : tie.After-code-parts-arg13 → tie.After-least
+from-code-parts c =
+    c .before .before .before .before .before .before .before .before .before .before
+    .before .before .before
+
+abbrev from-least : tie.After-edges-kept → tie.After-edges-kept
+from-least c = c
+
+abbrev from-edges-kept : tie.After-up-to → tie.After-up-to
+from-edges-kept c = c
+
+abbrev from-up-to : tie.After-slice-known11 → tie.Start
+from-up-to c =
+    c .before .before .before .before .before .before .before .before .before .before
+    .before .before .before .before .before .before .before .before .before .before
+
+abbrev at-code-parts : tie.After-slice-known22 → tie.After-code-parts
+at-code-parts c = from-end c
+
+abbrev at-least : tie.After-slice-known22 → tie.After-least
+at-least c = from-code-parts (at-code-parts c .before)
+
+abbrev at-edges-kept : tie.After-slice-known22 → tie.After-edges-kept
+at-edges-kept c = from-least (at-least c .before)
+
+abbrev at-up-to : tie.After-slice-known22 → tie.After-up-to
+at-up-to c = from-edges-kept (at-edges-kept c .before)
+
+abbrev start : tie.After-slice-known22 → tie.Start
+start c = from-up-to (at-up-to c .before)
+
+-- Each column is as long as it was.
+
+-- bases
+same-length : tie.Need-same-length
+same-length c = at-code-parts c .code-parts .kept .1 .1 .1 .1 .1 .1 .1 .1 .1 .1 .1 .1 .0
+
+-- short
+same-length-2 : tie.Need-same-length-2
+same-length-2 c = at-code-parts c .code-parts .kept .1 .1 .1 .1 .1 .1 .1 .1 .1 .1 .1 .1 .1 .0
+
+-- long_at
+same-length-3 : tie.Need-same-length-3
+same-length-3 c = at-code-parts c .code-parts .kept .1 .1 .1 .1 .1 .1 .1 .1 .1 .1 .1 .1 .1 .1 .0
+
+-- long_value
+same-length-4 : tie.Need-same-length-4
+same-length-4 c = at-code-parts c .code-parts .kept .1 .1 .1 .1 .1 .1 .1 .1 .1 .1 .1 .1 .1 .1 .1 .0
+
+-- fields
+same-length-5 : tie.Need-same-length-5
+same-length-5 c = at-code-parts c .code-parts .kept .1 .1 .1 .1 .1 .1 .1 .1 .1 .1 .1 .1 .1 .1 .1 .1 .0
+
+-- table
+same-length-6 : tie.Need-same-length-6
+same-length-6 c = at-code-parts c .code-parts .kept .1 .1 .1 .1 .1 .1 .1 .1 .1 .1 .1 .1 .1 .1 .1 .1 .1 .0
+
+-- escape_at
+same-length-7 : tie.Need-same-length-7
+same-length-7 c = at-code-parts c .code-parts .kept .1 .1 .1 .1 .1 .1 .1 .1 .1 .1 .1 .1 .1 .1 .1 .1 .1 .1 .0
+
+-- escape_label
+same-length-8 : tie.Need-same-length-8
+same-length-8 c = at-code-parts c .code-parts .kept .1 .1 .1 .1 .1 .1 .1 .1 .1 .1 .1 .1 .1 .1 .1 .1 .1 .1 .1 .0
+
+-- edge_codes
+same-length-9 : tie.Need-same-length-9
+same-length-9 c = at-code-parts c .code-parts .kept .1 .1 .1 .1 .1 .1 .1 .1 .1 .1 .1 .1 .1 .1 .1 .1 .1 .1 .1 .1 .0
+
+-- counting
+same-length-10 : tie.Need-same-length-10
+same-length-10 c = at-code-parts c .code-parts .kept .1 .1 .1 .1 .1 .1 .1 .1 .1 .1 .1 .1 .1 .1 .1 .1 .1 .1 .1 .1 .1 .0
+
+-- ranking
+same-length-11 : tie.Need-same-length-11
+same-length-11 c = at-code-parts c .code-parts .kept .1 .1 .1 .1 .1 .1 .1 .1 .1 .1 .1 .1 .1 .1 .1 .1 .1 .1 .1 .1 .1 .1 .0
+
+-- the fronts that are handed over are the offsets and the labels used
+abbrev begun : tie.After-least → tie.Start
+begun l = from-up-to (l .before .before .before)
+
+offsets-cut : (l : tie.After-least) → take (l .before .before .up-to .result) (now (begun l .args .working)) ≡ offsetsUsed (begun l .args .objects) (now (begun l .args .working))
+offsets-cut l = take-least (now (begun l .args .working)) (begun l .args .objects + 1) (l .before .before .up-to .ensures .1)
+
+labels-cut : (l : tie.After-least) → take (l .least .result) (now (begun l .args .labels)) ≡ labelsUsed (builtSays (begun l .args .v)) (now (begun l .args .labels))
+labels-cut l =
+    take-least (now (begun l .args .labels)) (kept 1 (builtSays (begun l .args .v)))
+    (l .least .ensures .1 ∙ ap (λ (n : ℕ). min n (length (now (begun l .args .labels)))) (l .before .edges-kept .ensures))
 
 slice-aggregate-code-parts : tie.Need-slice-aggregate-code-parts
 slice-aggregate-code-parts c = sym (length-take-le _ _ (c .before .before .before .up-to .ensures .0))
@@ -17,43 +115,18 @@ slice-aggregate-code-parts-2 : tie.Need-slice-aggregate-code-parts-2
 slice-aggregate-code-parts-2 c = sym (length-take-le _ _ (c .before .before .least .ensures .0))
 
 code-parts-requires : tie.Need-code-parts-requires
-code-parts-requires c κs = λ ok. ready-used (c .before .before .before .before .before .before .before .before .before .before .before .before .before .before .before .before .before .before .before .before .before .before .before .before .before .before .before .before .before .before .before .before .before .before .before .before .args .working .now) (c .before .before .before .before .before .before .before .before .before .before .before .before .before .before .before .before .before .before .before .before .before .before .before .before .before .before .before .before .before .before .before .before .before .before .before .before .args .labels .now) (c .before .before .before .before .before .before .before .before .before .before .before .before .before .before .before .up-to .result) (c .before .before .before .before .before .before .before .before .before .before .before .before .before .before .before .before .before .before .before .before .before .before .before .before .before .before .before .before .before .before .before .before .before .before .before .before .args .objects + 1) (c .before .before .before .before .before .before .before .before .before .before .before .before .before .least .result) (kept 1 (builtSays (c .before .before .before .before .before .before .before .before .before .before .before .before .before .before .before .before .before .before .before .before .before .before .before .before .before .before .before .before .before .before .before .before .before .before .before .before .args .v))) (take-least (c .before .before .before .before .before .before .before .before .before .before .before .before .before .before .before .before .before .before .before .before .before .before .before .before .before .before .before .before .before .before .before .before .before .before .before .before .args .working .now) (c .before .before .before .before .before .before .before .before .before .before .before .before .before .before .before .before .before .before .before .before .before .before .before .before .before .before .before .before .before .before .before .before .before .before .before .before .args .objects + 1) (c .before .before .before .before .before .before .before .before .before .before .before .before .before .before .before .up-to .ensures .1)) (take-least (c .before .before .before .before .before .before .before .before .before .before .before .before .before .before .before .before .before .before .before .before .before .before .before .before .before .before .before .before .before .before .before .before .before .before .before .before .args .labels .now) (kept 1 (builtSays (c .before .before .before .before .before .before .before .before .before .before .before .before .before .before .before .before .before .before .before .before .before .before .before .before .before .before .before .before .before .before .before .before .before .before .before .before .args .v))) (c .before .before .before .before .before .before .before .before .before .before .before .before .before .least .ensures .1 ∙ ap (λ (n : ℕ). min n (length (c .before .before .before .before .before .before .before .before .before .before .before .before .before .before .before .before .before .before .before .before .before .before .before .before .before .before .before .before .before .before .before .before .before .before .before .before .args .labels .now))) (c .before .before .before .before .before .before .before .before .before .before .before .before .before .before .edges-kept .ensures))) (c .before .before .before .before .before .before .before .before .before .before .before .before .before .before .before .before .before .before .before .before .before .before .before .before .before .before .before .before .before .before .before .before .before .before .before .before .pre ok)
-
-same-length : tie.Need-same-length
-same-length c = c .before .before .before .before .before .before .before .before .before .before .before .before .before .before .before .before .before .before .before .before .before .before .code-parts .kept .1 .1 .1 .1 .1 .1 .1 .1 .1 .1 .1 .1 .0
-
-same-length-2 : tie.Need-same-length-2
-same-length-2 c = c .before .before .before .before .before .before .before .before .before .before .before .before .before .before .before .before .before .before .before .before .before .before .code-parts .kept .1 .1 .1 .1 .1 .1 .1 .1 .1 .1 .1 .1 .1 .0
-
-same-length-3 : tie.Need-same-length-3
-same-length-3 c = c .before .before .before .before .before .before .before .before .before .before .before .before .before .before .before .before .before .before .before .before .before .before .code-parts .kept .1 .1 .1 .1 .1 .1 .1 .1 .1 .1 .1 .1 .1 .1 .0
-
-same-length-4 : tie.Need-same-length-4
-same-length-4 c = c .before .before .before .before .before .before .before .before .before .before .before .before .before .before .before .before .before .before .before .before .before .before .code-parts .kept .1 .1 .1 .1 .1 .1 .1 .1 .1 .1 .1 .1 .1 .1 .1 .0
-
-same-length-5 : tie.Need-same-length-5
-same-length-5 c = c .before .before .before .before .before .before .before .before .before .before .before .before .before .before .before .before .before .before .before .before .before .before .code-parts .kept .1 .1 .1 .1 .1 .1 .1 .1 .1 .1 .1 .1 .1 .1 .1 .1 .0
-
-same-length-6 : tie.Need-same-length-6
-same-length-6 c = c .before .before .before .before .before .before .before .before .before .before .before .before .before .before .before .before .before .before .before .before .before .before .code-parts .kept .1 .1 .1 .1 .1 .1 .1 .1 .1 .1 .1 .1 .1 .1 .1 .1 .1 .0
-
-same-length-7 : tie.Need-same-length-7
-same-length-7 c = c .before .before .before .before .before .before .before .before .before .before .before .before .before .before .before .before .before .before .before .before .before .before .code-parts .kept .1 .1 .1 .1 .1 .1 .1 .1 .1 .1 .1 .1 .1 .1 .1 .1 .1 .1 .0
-
-same-length-8 : tie.Need-same-length-8
-same-length-8 c = c .before .before .before .before .before .before .before .before .before .before .before .before .before .before .before .before .before .before .before .before .before .before .code-parts .kept .1 .1 .1 .1 .1 .1 .1 .1 .1 .1 .1 .1 .1 .1 .1 .1 .1 .1 .1 .0
-
-same-length-9 : tie.Need-same-length-9
-same-length-9 c = c .before .before .before .before .before .before .before .before .before .before .before .before .before .before .before .before .before .before .before .before .before .before .code-parts .kept .1 .1 .1 .1 .1 .1 .1 .1 .1 .1 .1 .1 .1 .1 .1 .1 .1 .1 .1 .1 .0
-
-same-length-10 : tie.Need-same-length-10
-same-length-10 c = c .before .before .before .before .before .before .before .before .before .before .before .before .before .before .before .before .before .before .before .before .before .before .code-parts .kept .1 .1 .1 .1 .1 .1 .1 .1 .1 .1 .1 .1 .1 .1 .1 .1 .1 .1 .1 .1 .1 .0
-
-same-length-11 : tie.Need-same-length-11
-same-length-11 c = c .before .before .before .before .before .before .before .before .before .before .before .before .before .before .before .before .before .before .before .before .before .before .code-parts .kept .1 .1 .1 .1 .1 .1 .1 .1 .1 .1 .1 .1 .1 .1 .1 .1 .1 .1 .1 .1 .1 .1 .0
+code-parts-requires c κs = λ ok.
+    let l = from-code-parts c in
+    let a = begun l .args in
+    ready-used (now (a .working)) (now (a .labels)) (l .before .before .up-to .result) (a .objects + 1) (l .least .result) (kept 1 (builtSays (a .v)))
+    (offsets-cut l) (labels-cut l) (begun l .pre ok)
 
 returns : tie.Need-returns
-returns c = coding-used (c .before .before .before .before .before .before .before .before .before .before .before .before .before .before .before .before .before .before .before .before .before .before .before .before .before .before .before .before .before .before .before .before .before .before .before .before .before .before .before .before .before .before .before .before .before .before .before .before .before .before .before .before .before .before .before .before .before .before .before .args .working .now) (c .before .before .before .before .before .before .before .before .before .before .before .before .before .before .before .before .before .before .before .before .before .before .before .before .before .before .before .before .before .before .before .before .before .before .before .before .before .before .before .before .before .before .before .before .before .before .before .before .before .before .before .before .before .before .before .before .before .before .before .args .labels .now) (c .before .before .before .before .before .before .before .before .before .before .before .before .before .before .before .before .before .before .before .before .before .before .before .before .before .before .before .before .before .before .before .before .before .before .before .before .before .before .up-to .result) (c .before .before .before .before .before .before .before .before .before .before .before .before .before .before .before .before .before .before .before .before .before .before .before .before .before .before .before .before .before .before .before .before .before .before .before .before .before .before .before .before .before .before .before .before .before .before .before .before .before .before .before .before .before .before .before .before .before .before .before .args .objects + 1) (c .before .before .before .before .before .before .before .before .before .before .before .before .before .before .before .before .before .before .before .before .before .before .before .before .before .before .before .before .before .before .before .before .before .before .before .before .least .result) (kept 1 (builtSays (c .before .before .before .before .before .before .before .before .before .before .before .before .before .before .before .before .before .before .before .before .before .before .before .before .before .before .before .before .before .before .before .before .before .before .before .before .before .before .before .before .before .before .before .before .before .before .before .before .before .before .before .before .before .before .before .before .before .before .before .args .v))) (take-least (c .before .before .before .before .before .before .before .before .before .before .before .before .before .before .before .before .before .before .before .before .before .before .before .before .before .before .before .before .before .before .before .before .before .before .before .before .before .before .before .before .before .before .before .before .before .before .before .before .before .before .before .before .before .before .before .before .before .before .before .args .working .now) (c .before .before .before .before .before .before .before .before .before .before .before .before .before .before .before .before .before .before .before .before .before .before .before .before .before .before .before .before .before .before .before .before .before .before .before .before .before .before .before .before .before .before .before .before .before .before .before .before .before .before .before .before .before .before .before .before .before .before .before .args .objects + 1) (c .before .before .before .before .before .before .before .before .before .before .before .before .before .before .before .before .before .before .before .before .before .before .before .before .before .before .before .before .before .before .before .before .before .before .before .before .before .before .up-to .ensures .1)) (take-least (c .before .before .before .before .before .before .before .before .before .before .before .before .before .before .before .before .before .before .before .before .before .before .before .before .before .before .before .before .before .before .before .before .before .before .before .before .before .before .before .before .before .before .before .before .before .before .before .before .before .before .before .before .before .before .before .before .before .before .before .args .labels .now) (kept 1 (builtSays (c .before .before .before .before .before .before .before .before .before .before .before .before .before .before .before .before .before .before .before .before .before .before .before .before .before .before .before .before .before .before .before .before .before .before .before .before .before .before .before .before .before .before .before .before .before .before .before .before .before .before .before .before .before .before .before .before .before .before .before .args .v))) (c .before .before .before .before .before .before .before .before .before .before .before .before .before .before .before .before .before .before .before .before .before .before .before .before .before .before .before .before .before .before .before .before .before .before .before .before .least .ensures .1 ∙ ap (λ (n : ℕ). min n (length (c .before .before .before .before .before .before .before .before .before .before .before .before .before .before .before .before .before .before .before .before .before .before .before .before .before .before .before .before .before .before .before .before .before .before .before .before .before .before .before .before .before .before .before .before .before .before .before .before .before .before .before .before .before .before .before .before .before .before .before .args .labels .now))) (c .before .before .before .before .before .before .before .before .before .before .before .before .before .before .before .before .before .before .before .before .before .before .before .before .before .before .before .before .before .before .before .before .before .before .before .before .before .edges-kept .ensures))) (c .before .before .before .before .before .before .before .before .before .before .before .before .before .before .before .before .before .before .before .before .before .before .code-parts .ensures)
+returns c =
+    let l = at-least c in
+    let a = begun l .args in
+    coding-used (now (a .working)) (now (a .labels)) (l .before .before .up-to .result) (a .objects + 1) (l .least .result) (kept 1 (builtSays (a .v)))
+    (offsets-cut l) (labels-cut l) (at-code-parts c .code-parts .ensures)
 
 pub code-used-spec : {M : Type 1} → statement M
 code-used-spec =

@@ -10,7 +10,10 @@ returns : tie.Need-returns
 returns c = λ ok. absurd (true≢false (sym ok ∙ (sym (c .before .passed .ensures) ∙ not-true _ (c .if1 .taken))))
 
 collect-roots-requires : tie.Need-collect-roots-requires
-collect-roots-requires c κs = let h = c .before .before .before .before .before .before .before .pre (sym (c .before .before .before .passed .ensures) ∙ not-false _ (c .before .before .if1 .left)) in ((h .0, h .1), h .2)
+collect-roots-requires c κs =
+    let t = c .before .before in
+    let h = t .before .before .before .before .before .pre (sym (t .before .passed .ensures) ∙ not-false _ (t .if1 .left)) in
+    ((h .0, h .1), h .2)
 
 returns-2 : tie.Need-returns-2
 returns-2 c = λ ok. c .before .before .before .before .collect-roots .ensures

@@ -4,59 +4,103 @@ use mathlib.Core.Bool.{true}
 use mathlib.Core.List.{List, [], _∷_}
 use Prim.Native.Nat.{ℕ}
 use lib.ListN.{length}
+use denote.Ref.{now}
 use Rattle.columns.specs.Columns.{accepts}
 use Rattle.columns.proofs.Written.{zeroed-length, zeroed-own}
 use Rattle.rules.specs.Types.{checkedSays}
 use Rattle.rules.specs.Input.{Input, classCount}
 use Rattle.rules.specs.Places.{placeCount}
 use Rattle.rules.specs.Verdict.{firstOf, faults}
-use Rattle.check_tables.specs.Copying.{heldCodes}
+use Rattle.rules.specs.Tables.{objectTable, classTable, slotTable, staticTable, copiedRoute, schemaOf, inputOf}
+use Rattle.check_ids.specs.Copying.{heldCodes}
 use Rattle.check_tables.specs.Reads.{noPolicy}
 use Rattle.check_tables.specs.Found.{marksIf}
 use Rattle.check_places.specs.Placing.{copiedPlaces}
-use Rattle.check_input.specs.Flat.{copiedInput, faultsBefore}
+use Rattle.check_input.specs.Flat.{faultsBefore}
 use Rattle.check_input.proofs.Sound.{sound, told-before, class-tables, code-tables, copied-counted}
 use Rattle.check_input.proofs.Join.{narrow, before-policy, joined, toldFor, told-counted, told-fits, told-accepts, marks-left}
 use borrow.Author.Needs.{needs}
 use Rattle.check_input.proofs.fit_copied.Statement.{statement}
 use Rattle.check_input.proofs.fit_copied.Tie as tie
 
-abbrev inputOf : tie.Start → Input
-inputOf s = let a = s .args in copiedInput (a .ids .now) (a .kinds .now) (a .classes .now) (a .lengths .now) (a .class-ids .now) (a .loaders .now) (a .dumped .now) (a .class-kinds .now) (a .slot-starts .now) (a .slot-ends .now) (a .static-starts .now) (a .static-ends .now) (a .slot-offsets .now) (a .slot-labels .now) (a .slot-weak .now) (a .static-names .now) (a .static-types .now) (a .static-values .now) (a .names) (a .codes .now) (a .escape-places .now) (a .escape-ids .now) (a .base) (a .starts .now) (a .roots .now) (a .policy)
+abbrev input : tie.Start → Input
+input s =
+    let a = s .args in
+    let schema =
+    schemaOf
+    (classTable now (a .class-ids) (a .loaders) (a .dumped) (a .class-kinds) (a .slot-starts) (a .slot-ends) (a .static-starts) (a .static-ends))
+    (slotTable now (a .slot-offsets) (a .slot-labels) (a .slot-weak)) (staticTable now (a .static-names) (a .static-types) (a .static-values)) (a .names) in
+    inputOf (objectTable now (a .ids) (a .kinds) (a .classes) (a .lengths)) schema (copiedRoute now (a .codes) (a .escape-places) (a .escape-ids) (a .base) (a .starts)) (now (a .roots)) (a .policy)
+
+abbrev from-judge-copied : tie.After-judge-copied → tie.Start
+from-judge-copied c =
+    c .before .before .before .before .before .before .before .before .before .before .before .before .before .before .before .before .before .before .before .before .before
+    .before .before .before .before .before .before .before .before .before
 
 -- what the tests before said, without regard to the policy, and the marks that they left
-said : (c : tie.After-judge-copied) → checkedSays (c .judge-copied .result) ≡ firstOf (faultsBefore (inputOf (c .before .before .before .before .before .before .before .before .before .before .before .before .before .before .before .before .before .before .before .before .before .before .before .before .before .before .before .before .before .before))) (0 ∷ heldCodes (c .before .before .before .before .before .before .before .before .before .before .before .before .before .before .before .before .before .before .before .before .before .before .before .before .before .before .before .before .before .before .args .codes .now) ∷ [])
-said c = c .judge-copied .ensures .0 ∙ ap (λ (fs : List (List ℕ)). firstOf fs (0 ∷ heldCodes (c .before .before .before .before .before .before .before .before .before .before .before .before .before .before .before .before .before .before .before .before .before .before .before .before .before .before .before .before .before .before .args .codes .now) ∷ [])) (before-policy (inputOf (c .before .before .before .before .before .before .before .before .before .before .before .before .before .before .before .before .before .before .before .before .before .before .before .before .before .before .before .before .before .before)) noPolicy)
+said : (c : tie.After-judge-copied) → checkedSays (c .judge-copied .result) ≡ firstOf (faultsBefore (input (from-judge-copied c))) (0 ∷ heldCodes (from-judge-copied c .args .codes .now) ∷ [])
+said c = c .judge-copied .ensures .0 ∙ ap (λ (fs : List (List ℕ)). firstOf fs (0 ∷ heldCodes (from-judge-copied c .args .codes .now) ∷ [])) (before-policy (input (from-judge-copied c)) noPolicy)
 
-marked : (c : tie.After-judge-copied) → accepts (checkedSays (c .judge-copied .result)) ≡ true → c .judge-copied .last .1 .1 .1 .1 .1 .1 .1 .1 .1 .1 .1 .1 .1 .1 .1 .1 .1 .1 .1 .1 .1 .1 .1 .1 .1 .0 ≡ marksIf (narrow (inputOf (c .before .before .before .before .before .before .before .before .before .before .before .before .before .before .before .before .before .before .before .before .before .before .before .before .before .before .before .before .before .before))) (classCount (inputOf (c .before .before .before .before .before .before .before .before .before .before .before .before .before .before .before .before .before .before .before .before .before .before .before .before .before .before .before .before .before .before) .schema)) (length (c .before .before .before .before .before .before .before .before .before .before .before .before .before .before .before .before .before .before .before .before .before .before .before .before .before .before .before .before .before .before .args .working .now))
-marked c ok = c .judge-copied .ensures .1 ok ∙ ap (marksIf (narrow (inputOf (c .before .before .before .before .before .before .before .before .before .before .before .before .before .before .before .before .before .before .before .before .before .before .before .before .before .before .before .before .before .before))) (classCount (inputOf (c .before .before .before .before .before .before .before .before .before .before .before .before .before .before .before .before .before .before .before .before .before .before .before .before .before .before .before .before .before .before) .schema))) (zeroed-length (c .before .before .before .before .before .before .before .before .before .before .before .before .before .before .before .before .before .before .before .before .before .before .before .before .before .before .before .before .before .before .args .working .now) (c .before .before .before .before .zero-u64 .ensures))
+marked : (c : tie.After-judge-copied) → accepts (checkedSays (c .judge-copied .result)) ≡ true
+    → c .judge-copied .last .1 .1 .1 .1 .1 .1 .1 .1 .1 .1 .1 .1 .1 .1 .1 .1 .1 .1 .1 .1 .1 .1 .1 .1 .1 .0 ≡ marksIf (narrow (input (from-judge-copied c)))
+    (classCount (input (from-judge-copied c) .schema)) (length (from-judge-copied c .args .working .now))
+marked c ok =
+    let at-zero-u64 = c .before .before .before .before in
+    c .judge-copied .ensures .1 ok ∙ ap (marksIf (narrow (input (from-judge-copied c))) (classCount (input (from-judge-copied c) .schema)))
+    (zeroed-length (from-judge-copied c .args .working .now) (at-zero-u64 .zero-u64 .ensures))
 
-same : (c : tie.After-judge-copied) → length (c .judge-copied .last .1 .1 .1 .1 .1 .1 .1 .1 .1 .1 .1 .1 .1 .1 .1 .1 .1 .1 .1 .1 .1 .1 .1 .1 .1 .0) ≡ length (c .before .before .before .before .before .before .before .before .before .before .before .before .before .before .before .before .before .before .before .before .before .before .before .before .before .before .before .before .before .before .args .working .now)
-same c = c .judge-copied .kept .1 .1 .1 .1 .1 .1 .1 .1 .1 .1 .1 .1 .1 .1 .1 .1 .1 .1 .1 .1 .1 .1 .1 .1 .1 .0 ∙ zeroed-length (c .before .before .before .before .before .before .before .before .before .before .before .before .before .before .before .before .before .before .before .before .before .before .before .before .before .before .before .before .before .before .args .working .now) (c .before .before .before .before .zero-u64 .ensures)
+same : (c : tie.After-judge-copied) → length (c .judge-copied .last .1 .1 .1 .1 .1 .1 .1 .1 .1 .1 .1 .1 .1 .1 .1 .1 .1 .1 .1 .1 .1 .1 .1 .1 .1 .0) ≡ length (from-judge-copied c .args .working .now)
+same c = c .judge-copied .kept .1 .1 .1 .1 .1 .1 .1 .1 .1 .1 .1 .1 .1 .1 .1 .1 .1 .1 .1 .1 .1 .1 .1 .1 .1 .0 ∙ zeroed-length (from-judge-copied c .args .working .now) (c .before .before .before .before .zero-u64 .ensures)
 
-same-places : (c : tie.After-judge-copied) → accepts (checkedSays (c .judge-copied .result)) ≡ true → let x = inputOf (c .before .before .before .before .before .before .before .before .before .before .before .before .before .before .before .before .before .before .before .before .before .before .before .before .before .before .before .before .before .before) in let k = x .schema .classes in
-    placeCount x ≡ copiedPlaces (x .objects .ids) (x .objects .kinds) (x .objects .classes) (x .objects .lengths) (k .ids) (k .loaders) (k .dumped) (k .kinds) (k .slotStart) (k .slotEnd) (k .staticStart) (k .staticEnd) (x .schema .slots .weak) (x .schema .statics .types) (x .schema .statics .values) (c .before .before .before .before .before .before .before .before .before .before .before .before .before .before .before .before .before .before .before .before .before .before .before .before .before .before .before .before .before .before .args .codes .now) (c .before .before .before .before .before .before .before .before .before .before .before .before .before .before .before .before .before .before .before .before .before .before .before .before .before .before .before .before .before .before .args .starts .now) (x .policy)
-same-places c ok = copied-counted (inputOf (c .before .before .before .before .before .before .before .before .before .before .before .before .before .before .before .before .before .before .before .before .before .before .before .before .before .before .before .before .before .before)) (sound (inputOf (c .before .before .before .before .before .before .before .before .before .before .before .before .before .before .before .before .before .before .before .before .before .before .before .before .before .before .before .before .before .before)) _ (said c) ok) _ refl
+same-places : (c : tie.After-judge-copied) → accepts (checkedSays (c .judge-copied .result)) ≡ true → let x = input (from-judge-copied c) in let k = x .schema .classes in
+    placeCount x ≡ copiedPlaces (x .objects .ids) (x .objects .kinds) (x .objects .classes) (x .objects .lengths) (k .ids) (k .loaders) (k .dumped) (k .kinds) (k .slotStart)
+    (k .slotEnd) (k .staticStart) (k .staticEnd) (x .schema .slots .weak) (x .schema .statics .types) (x .schema .statics .values) (from-judge-copied c .args .codes .now)
+    (from-judge-copied c .args .starts .now) (x .policy)
+same-places c ok =
+    copied-counted (input (from-judge-copied c)) (sound (input (from-judge-copied c)) _ (said c) ok) _ refl
 
-answer : (c : tie.After-count-copied) → checkedSays (c .count-copied .result) ≡ firstOf (faults (inputOf (c .before .before .before .before .before .before .before .before .before .before .before .before .before .before .before .before .before .before .before .before .before .before .before .before .before .before .before .before .before .before .before .before .before))) (0 ∷ toldFor (inputOf (c .before .before .before .before .before .before .before .before .before .before .before .before .before .before .before .before .before .before .before .before .before .before .before .before .before .before .before .before .before .before .before .before .before)) (checkedSays (c .before .before .before .judge-copied .result)) (c .count-copied .ensures .told) ∷ [])
-answer c = joined (inputOf (c .before .before .before .before .before .before .before .before .before .before .before .before .before .before .before .before .before .before .before .before .before .before .before .before .before .before .before .before .before .before .before .before .before)) _ _ _ _ (said (c .before .before .before)) (same-places (c .before .before .before)) (told-counted (inputOf (c .before .before .before .before .before .before .before .before .before .before .before .before .before .before .before .before .before .before .before .before .before .before .before .before .before .before .before .before .before .before .before .before .before)) (checkedSays (c .before .before .before .judge-copied .result)) (c .count-copied .ensures .told)) (c .count-copied .ensures .answer)
+abbrev from-count-copied : tie.After-count-copied → tie.Start
+from-count-copied c =
+    c .before .before .before .before .before .before .before .before .before .before .before .before .before .before .before .before .before .before .before .before .before
+    .before .before .before .before .before .before .before .before .before .before .before .before
+
+answer : (c : tie.After-count-copied) → checkedSays (c .count-copied .result) ≡ firstOf (faults (input (from-count-copied c))) (0 ∷ toldFor (input (from-count-copied c)) (checkedSays (c .before .before .before .judge-copied .result)) (c .count-copied .ensures .told) ∷ [])
+answer c =
+    let at-judge-copied = c .before .before .before in
+    joined (input (from-count-copied c)) _ _ _ _ (said at-judge-copied) (same-places at-judge-copied)
+    (told-counted (input (from-count-copied c)) (checkedSays (at-judge-copied .judge-copied .result)) (c .count-copied .ensures .told)) (c .count-copied .ensures .answer)
 
 judge-copied-requires : tie.Need-judge-copied-requires
-judge-copied-requires c κs = zeroed-own (c .before .before .before .before .before .before .before .before .before .before .before .before .before .before .before .before .before .before .before .before .before .before .before .before .before .before .before .before .before .args .working .now) (c .before .before .before .zero-u64 .ensures)
+judge-copied-requires c κs =
+    let at-zero-u64 = c .before .before .before in
+    let s = at-zero-u64 .before .before .before .before .before .before .before .before .before .before .before .before .before .before .before .before .before .before .before
+    .before .before .before .before .before .before .before in
+    zeroed-own (s .args .working .now) (at-zero-u64 .zero-u64 .ensures)
 
 count-copied-requires : tie.Need-count-copied-requires
-count-copied-requires c κs = λ ok. let h = sound (inputOf (c .before .before .before .before .before .before .before .before .before .before .before .before .before .before .before .before .before .before .before .before .before .before .before .before .before .before .before .before .before .before .before .before)) _ (said (c .before .before)) ok in (code-tables (inputOf (c .before .before .before .before .before .before .before .before .before .before .before .before .before .before .before .before .before .before .before .before .before .before .before .before .before .before .before .before .before .before .before .before)) h _ refl, class-tables (inputOf (c .before .before .before .before .before .before .before .before .before .before .before .before .before .before .before .before .before .before .before .before .before .before .before .before .before .before .before .before .before .before .before .before)) h, told-before (inputOf (c .before .before .before .before .before .before .before .before .before .before .before .before .before .before .before .before .before .before .before .before .before .before .before .before .before .before .before .before .before .before .before .before)) _ (said (c .before .before)) ok)
+count-copied-requires c κs =
+    let s = c .before .before .before .before .before .before .before .before .before .before .before .before .before .before .before .before .before .before .before .before
+    .before .before .before .before .before .before .before .before .before .before .before .before in
+    λ ok. let h = sound (input s) _ (said (c .before .before)) ok in
+    (code-tables (input s) h _ refl, class-tables (input s) h, told-before (input s) _ (said (c .before .before)) ok)
 
 same-length : tie.Need-same-length
 same-length c = c .before .before .settle .kept .1 .0 ∙ same (c .before .before .before .before .before .before .before .before)
 
 returns : tie.Need-returns
 returns c =
+    let at-accepted = c .before .before .before .before in
+    let at-count-copied = at-accepted .before in
+    let at-judge-copied = at-count-copied .before .before .before in
+    let s = at-judge-copied .before .before .before .before .before .before .before .before .before .before .before .before .before .before .before .before .before .before .before
+    .before .before .before .before .before .before .before .before .before .before .before in
     record {
-      told = toldFor (inputOf (c .before .before .before .before .before .before .before .before .before .before .before .before .before .before .before .before .before .before .before .before .before .before .before .before .before .before .before .before .before .before .before .before .before .before .before .before .before .before)) (checkedSays (c .before .before .before .before .before .before .before .before .judge-copied .result)) (c .before .before .before .before .before .count-copied .ensures .told);
-      fits = told-fits (inputOf (c .before .before .before .before .before .before .before .before .before .before .before .before .before .before .before .before .before .before .before .before .before .before .before .before .before .before .before .before .before .before .before .before .before .before .before .before .before .before)) (c .before .before .before .before .before .before .before .before .before .before .before .before .before .before .before .before .before .before .before .before .before .before .before .before .before .before .before .before .before .before .before .before .before .before .before .before .before .before .args .room) _ _ (checkedSays (c .before .before .before .before .before .before .before .before .judge-copied .result)) (same-places (c .before .before .before .before .before .before .before .before)) (c .before .before .before .before .before .count-copied .ensures .fits);
-      answer = answer (c .before .before .before .before .before);
-      marks = marks-left (inputOf (c .before .before .before .before .before .before .before .before .before .before .before .before .before .before .before .before .before .before .before .before .before .before .before .before .before .before .before .before .before .before .before .before .before .before .before .before .before .before)) _ _ (length (c .before .before .before .before .before .before .before .before .before .before .before .before .before .before .before .before .before .before .before .before .before .before .before .before .before .before .before .before .before .before .before .before .before .before .before .before .before .before .args .working .now)) (checkedSays (c .before .before .before .before .before .before .before .before .judge-copied .result)) (c .before .before .before .before .before .count-copied .ensures .answer) (told-accepts (inputOf (c .before .before .before .before .before .before .before .before .before .before .before .before .before .before .before .before .before .before .before .before .before .before .before .before .before .before .before .before .before .before .before .before .before .before .before .before .before .before)) _ (answer (c .before .before .before .before .before))) (marked (c .before .before .before .before .before .before .before .before)) (same (c .before .before .before .before .before .before .before .before)) (c .before .before .before .before .accepted .ensures) (c .before .before .settle .ensures);
+      told = toldFor (input s) (checkedSays (at-judge-copied .judge-copied .result)) (at-count-copied .count-copied .ensures .told);
+      fits = told-fits (input s) (s .args .room) _ _ (checkedSays (at-judge-copied .judge-copied .result)) (same-places at-judge-copied)
+          (at-count-copied .count-copied .ensures .fits);
+      answer = answer at-count-copied;
+      marks = marks-left (input s) _ _ (length (s .args .working .now)) (checkedSays (at-judge-copied .judge-copied .result)) (at-count-copied .count-copied .ensures .answer)
+          (told-accepts (input s) _ (answer at-count-copied)) (marked at-judge-copied) (same at-judge-copied) (at-accepted .accepted .ensures) (c .before .before .settle .ensures);
     }
 
 pub fit-copied-spec : {M : Type 1} → statement M

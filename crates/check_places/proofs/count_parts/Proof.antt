@@ -34,13 +34,24 @@ add-sum c = omega (arith, c .before .before .before .before .before .before .loo
 
 loop-again : tie.Need-loop-again Inv-loop μ-loop
 loop-again c =
-    let a = c .before .before .before .before .before .before .before .before .before .before .before .before .args in
-    (omega (arith, c .before .before .before .before .before .loop-test .taken), total-more (partAt (a .kinds .now) (a .classes .now) (a .lengths .now) (a .slot-starts .now) (a .slot-ends .now)) (c .before .before .before .before .before .before .loop .o) (c .before .before .before .before .before .before .loop .inv .1) (c .wide .ensures ∙ c .before .part-of .ensures), omega (arith, c .before .before .before .before .before .before .loop .inv .2, c .wide .ensures))
+    let i = c .before .before .before .before .before in
+    let l = i .before in
+    let s = l .before .before .before .before .before .before in
+    let a = s .args in (
+      omega (arith, i .loop-test .taken),
+      total-more (partAt (a .kinds .now) (a .classes .now) (a .lengths .now) (a .slot-starts .now) (a .slot-ends .now)) (l .loop .o)
+          (l .loop .inv .1) (c .wide .ensures ∙ c .before .part-of .ensures),
+      omega (arith, l .loop .inv .2, c .wide .ensures),
+    )
 
 returns : tie.Need-returns Inv-loop μ-loop
 returns c =
-    let a = c .before .before .before .before .before .before .before .args in
-    (total-end (partAt (a .kinds .now) (a .classes .now) (a .lengths .now) (a .slot-starts .now) (a .slot-ends .now)) (c .before .loop .inv .1) (c .before .loop .inv .0) (c .loop-test .left), omega (arith, c .before .loop .inv .2, c .before .loop .inv .0, c .before .before .before .before .before .before .before .pre .few))
+    let s = c .before .before .before .before .before .before .before in
+    let a = s .args in (
+      total-end (partAt (a .kinds .now) (a .classes .now) (a .lengths .now) (a .slot-starts .now) (a .slot-ends .now)) (c .before .loop .inv .1) (c .before .loop .inv .0)
+          (c .loop-test .left),
+      omega (arith, c .before .loop .inv .2, c .before .loop .inv .0, s .pre .few),
+    )
 
 pub count-parts-spec : {M : Type 1} → statement M
 count-parts-spec =

@@ -13,11 +13,17 @@ returns c = pair-is (c .before .before .args .ids .now) (c .before .before .args
 
 returns-2 : tie.Need-returns-2
 returns-2 c =
-    pair-is (c .before .before .before .before .before .args .ids .now) (c .before .before .before .before .before .args .id) (other-weak (c .before .before .before .before .before .args .ids .now) 0 0 false (c .before .before .before .before .before .args .id) (c .before .before .before .if1 .left) (as-sought (c .before .before .find-sorted .ensures) (c .enum-told .given .1) (c .before .before .before .before .before .pre)) refl)
+    let at-if1 = c .before .before .before in
+    let s = at-if1 .before .before in
+    pair-is (s .args .ids .now) (s .args .id) (other-weak (s .args .ids .now) 0 0 false (s .args .id) (at-if1 .if1 .left)
+    (as-sought (c .before .before .find-sorted .ensures) (c .enum-told .given .1) (s .pre)) refl)
 
 returns-3 : tie.Need-returns-3
 returns-3 c =
-    pair-is (c .before .before .before .before .before .args .ids .now) (c .before .before .before .before .before .args .id) (lost-missing (c .before .before .before .before .before .args .ids .now) 0 0 false (c .before .before .before .before .before .args .id) (c .before .before .before .if1 .left) (as-sought (c .before .before .find-sorted .ensures) (c .enum-told2 .given .1) (c .before .before .before .before .before .pre)) (omega arith))
+    let at-if1 = c .before .before .before in
+    let s = at-if1 .before .before in
+    pair-is (s .args .ids .now) (s .args .id) (lost-missing (s .args .ids .now) 0 0 false (s .args .id) (at-if1 .if1 .left)
+    (as-sought (c .before .before .find-sorted .ensures) (c .enum-told2 .given .1) (s .pre)) (omega arith))
 
 pub pair-to-spec : {M : Type 1} → statement M
 pair-to-spec =

@@ -224,7 +224,9 @@ module _ {M : Type 1} (𝓤 : URA M) (H : Heap 𝓤) (A : Atoms 𝓤) (W : Given
     goes-settle : (i : ℕ) → ent 𝓤 (⋆ 𝓤 H A ((‵ (flft κ₁ q₁) ⊛ ‵ (flft κ₂ q₂) ⊛ ‵ (flft κ₃ q₃) ⊛ ‵ ftrue) ∷ ‵ (lent i) ∷ [])) (Settle 𝓤 H A mem run .pre (to-settle i))
     goes-settle i = qed W ((‵ (flft κ₁ q₁) ⊛ ‵ (flft κ₂ q₂) ⊛ ‵ (flft κ₃ q₃) ⊛ ‵ ftrue) ∷ ‵ (lent i) ∷ []) ∵ join ! $ frame ! $ done !
 
-    exits : (i : ℕ) (y : Val) (r : Filled) (z₁ z₂ z₃ : List ℕ) → i ≡ ρ → Settled n ρ r (col1 i) (col2 i) (col3 i) z₁ z₂ z₃ → length z₁ ≡ length (t .now) → length z₂ ≡ length (u .now) → length z₃ ≡ length (w .now) → ent 𝓤 (⋆ 𝓤 H A (‵ (flft κ₀ q₀) ∷ (‵ (flft κ₁ q₁) ⊛ ‵ (flft κ₂ q₂) ⊛ ‵ (flft κ₃ q₃) ⊛ ‵ ftrue) ∷ ‵ Shr ∷ ‵ Res ∷ ‵ (finally u32 (t .name) z₁) ∷ ‵ (finally u32 (u .name) z₂) ∷ ‵ (finally u8 (w .name) z₃) ∷ ‵ (S.the-row .own r (y ∷ [])) ∷ [])) (Post y)
+    exits : (i : ℕ) (y : Val) (r : Filled) (z₁ z₂ z₃ : List ℕ) → i ≡ ρ → Settled n ρ r (col1 i) (col2 i) (col3 i) z₁ z₂ z₃ → length z₁ ≡ length (t .now) → length z₂ ≡ length (u .now) → length z₃ ≡ length (w .now) → ent 𝓤
+        (⋆ 𝓤 H A (‵ (flft κ₀ q₀) ∷ (‵ (flft κ₁ q₁) ⊛ ‵ (flft κ₂ q₂) ⊛ ‵ (flft κ₃ q₃) ⊛ ‵ ftrue) ∷ ‵ Shr ∷ ‵ Res ∷ ‵ (finally u32 (t .name) z₁) ∷ ‵ (finally u32 (u .name) z₂) ∷ ‵ (finally u8 (w .name) z₃)
+        ∷ ‵ (S.the-row .own r (y ∷ [])) ∷ [])) (Post y)
     exits i y r z₁ z₂ z₃ same d k₁ k₂ k₃ =
         qed W (‵ (flft κ₀ q₀) ∷ (‵ (flft κ₁ q₁) ⊛ ‵ (flft κ₂ q₂) ⊛ ‵ (flft κ₃ q₃) ⊛ ‵ ftrue) ∷ ‵ Shr ∷ ‵ Res ∷ ‵ (finally u32 (t .name) z₁) ∷ ‵ (finally u32 (u .name) z₂) ∷ ‵ (finally u8 (w .name) z₃) ∷ ‵ (S.the-row .own r (y ∷ [])) ∷ []) ∵
         suffices ! _ (ends-at 𝓤 H A fill.ended stayed (fill.clauses 𝓤 H A mem run) W bound y r (tt, (z₁, (z₂, (z₃, tt)))) (tt, (k₁, (k₂, (k₃, tt))))) $
@@ -248,7 +250,19 @@ module _ {M : Type 1} (𝓤 : URA M) (H : Heap 𝓤) (A : Atoms 𝓤) (W : Given
 
     -- the loop's invariant: after i turns
     abbrev Inv : Share → (l₀ l₁ l₂ l₃ l₄ l₅ l₆ l₇ l₈ l₉ l₁₀ l₁₁ l₁₂ l₁₃ l₁₄ l₁₅ l₁₆ l₁₇ l₁₈ l₁₉ l₂₀ l₂₁ l₂₂ l₂₃ l₂₄ : ℕ) → ℕ → List (Item 𝓤)
-    Inv q′ l₀ l₁ l₂ l₃ l₄ l₅ l₆ l₇ l₈ l₉ l₁₀ l₁₁ l₁₂ l₁₃ l₁₄ l₁₅ l₁₆ l₁₇ l₁₈ l₁₉ l₂₀ l₂₁ l₂₂ l₂₃ l₂₄ i = ‵ (flt i (suc ρ)) ∷ ‵ (row T.the-row q′ (s .now) (s .ptr .0) (s .ptr .1)) ∷ ‵ (row u32 fullShare (col1 i) (t .ptr .0) (t .ptr .1)) ∷ ‵ (row u32 fullShare (col2 i) (u .ptr .0) (u .ptr .1)) ∷ ‵ (row u8 fullShare (col3 i) (w .ptr .0) (w .ptr .1)) ∷ ‵ (fat fullShare word l₅ 0 (vint w64 n)) ∷ ‵ (fat fullShare word l₆ 0 (vint w64 ρ)) ∷ ‵ (fat fullShare word l₇ 0 (vint w64 i)) ∷ ‵ (froom T′.mir l₈ 0) ∷ ‵ (froom word l₉ 0) ∷ ‵ (froom word l₁₀ 0) ∷ ‵ (froom word l₁₁ 0) ∷ ‵ (froom tyBool l₁₂ 0) ∷ ‵ (froom word l₁₃ 0) ∷ ‵ (froom tyPtr l₁₄ 0) ∷ ‵ (froom T′.mir l₁₅ 0) ∷ ‵ (froom tyPtr l₁₆ 0) ∷ ‵ (froom tyPtr l₁₇ 0) ∷ ‵ (froom tyPtr l₁₈ 0) ∷ ‵ (froom (tyRef erased mut (tyInt w32)) l₁₉ 0) ∷ ‵ (froom (sliceTy (tyRef erased mut (tyInt w32))) l₂₀ 0) ∷ ‵ (froom (tyRef erased mut (tyInt w32)) l₂₁ 0) ∷ ‵ (froom (sliceTy (tyRef erased mut (tyInt w32))) l₂₂ 0) ∷ ‵ (froom (tyRef erased mut (tyInt w8)) l₂₃ 0) ∷ ‵ (froom (sliceTy (tyRef erased mut (tyInt w8))) l₂₄ 0) ∷ ‵ (fat fullShare S₀ l₁ 0 v₀) ∷ ‵ (fat fullShare S₁ l₂ 0 v₁) ∷ ‵ (fat fullShare S₂ l₃ 0 v₂) ∷ ‵ (fat fullShare S₃ l₄ 0 v₃) ∷ ‵ (froom S′.mir l₀ 0) ∷ ‵ (fobor κ₀ q₀ (arr-parts (shares T.the-row) n .part q′ (s .now) (s .ptr .0) (s .ptr .1))) ∷ ‵ Shr ∷ ‵ Res ∷ ‵ (fobor κ₁ q₁ (Held u32 (length (t .now)) (t .ptr .0) (t .ptr .1) (t .name))) ∷ ‵ (fobs (t .name) (codedHoleys u32 .code (heres u32 (t .now)))) ∷ ‵ (fauth (t .name) (codedHoleys u32 .code (heres u32 (t .now)))) ∷ ‵ (fobor κ₂ q₂ (Held u32 (length (u .now)) (u .ptr .0) (u .ptr .1) (u .name))) ∷ ‵ (fobs (u .name) (codedHoleys u32 .code (heres u32 (u .now)))) ∷ ‵ (fauth (u .name) (codedHoleys u32 .code (heres u32 (u .now)))) ∷ ‵ (fobor κ₃ q₃ (Held u8 (length (w .now)) (w .ptr .0) (w .ptr .1) (w .name))) ∷ ‵ (fobs (w .name) (codedHoleys u8 .code (heres u8 (w .now)))) ∷ ‵ (fauth (w .name) (codedHoleys u8 .code (heres u8 (w .now)))) ∷ ‵ (fdies S′.mir l₀) ∷ ‵ (fdies S₀ l₁) ∷ ‵ (fdies S₁ l₂) ∷ ‵ (fdies S₂ l₃) ∷ ‵ (fdies S₃ l₄) ∷ ‵ (fdies word l₅) ∷ ‵ (fdies word l₆) ∷ ‵ (fdies word l₇) ∷ ‵ (fdies T′.mir l₈) ∷ ‵ (fdies word l₉) ∷ ‵ (fdies word l₁₀) ∷ ‵ (fdies word l₁₁) ∷ ‵ (fdies tyBool l₁₂) ∷ ‵ (fdies word l₁₃) ∷ ‵ (fdies tyPtr l₁₄) ∷ ‵ (fdies T′.mir l₁₅) ∷ ‵ (fdies tyPtr l₁₆) ∷ ‵ (fdies tyPtr l₁₇) ∷ ‵ (fdies tyPtr l₁₈) ∷ ‵ (fdies (tyRef erased mut (tyInt w32)) l₁₉) ∷ ‵ (fdies (sliceTy (tyRef erased mut (tyInt w32))) l₂₀) ∷ ‵ (fdies (tyRef erased mut (tyInt w32)) l₂₁) ∷ ‵ (fdies (sliceTy (tyRef erased mut (tyInt w32))) l₂₂) ∷ ‵ (fdies (tyRef erased mut (tyInt w8)) l₂₃) ∷ ‵ (fdies (sliceTy (tyRef erased mut (tyInt w8))) l₂₄) ∷ []
+    Inv q′ l₀ l₁ l₂ l₃ l₄ l₅ l₆ l₇ l₈ l₉ l₁₀ l₁₁ l₁₂ l₁₃ l₁₄ l₁₅ l₁₆ l₁₇ l₁₈ l₁₉ l₂₀ l₂₁ l₂₂ l₂₃ l₂₄ i = ‵ (flt i (suc ρ)) ∷ ‵ (row T.the-row q′ (s .now) (s .ptr .0) (s .ptr .1))
+        ∷ ‵ (row u32 fullShare (col1 i) (t .ptr .0) (t .ptr .1)) ∷ ‵ (row u32 fullShare (col2 i) (u .ptr .0) (u .ptr .1)) ∷ ‵ (row u8 fullShare (col3 i) (w .ptr .0) (w .ptr .1)) ∷ ‵ (fat fullShare word l₅ 0 (vint w64 n)) ∷ ‵ (fat fullShare word l₆ 0 (vint w64 ρ))
+        ∷ ‵ (fat fullShare word l₇ 0 (vint w64 i)) ∷ ‵ (froom T′.mir l₈ 0) ∷ ‵ (froom word l₉ 0) ∷ ‵ (froom word l₁₀ 0) ∷ ‵ (froom word l₁₁ 0) ∷ ‵ (froom tyBool l₁₂ 0) ∷ ‵ (froom word l₁₃ 0) ∷ ‵ (froom tyPtr l₁₄ 0)
+        ∷ ‵ (froom T′.mir l₁₅ 0) ∷ ‵ (froom tyPtr l₁₆ 0) ∷ ‵ (froom tyPtr l₁₇ 0) ∷ ‵ (froom tyPtr l₁₈ 0) ∷ ‵ (froom (tyRef erased mut (tyInt w32)) l₁₉ 0) ∷ ‵ (froom (sliceTy (tyRef erased mut (tyInt w32))) l₂₀ 0)
+        ∷ ‵ (froom (tyRef erased mut (tyInt w32)) l₂₁ 0) ∷ ‵ (froom (sliceTy (tyRef erased mut (tyInt w32))) l₂₂ 0) ∷ ‵ (froom (tyRef erased mut (tyInt w8)) l₂₃ 0) ∷ ‵ (froom (sliceTy (tyRef erased mut (tyInt w8))) l₂₄ 0) ∷ ‵ (fat fullShare S₀ l₁ 0 v₀)
+        ∷ ‵ (fat fullShare S₁ l₂ 0 v₁) ∷ ‵ (fat fullShare S₂ l₃ 0 v₂) ∷ ‵ (fat fullShare S₃ l₄ 0 v₃) ∷ ‵ (froom S′.mir l₀ 0) ∷ ‵ (fobor κ₀ q₀ (arr-parts (shares T.the-row) n .part q′ (s .now) (s .ptr .0) (s .ptr .1))) ∷ ‵ Shr ∷ ‵ Res
+        ∷ ‵ (fobor κ₁ q₁ (Held u32 (length (t .now)) (t .ptr .0) (t .ptr .1) (t .name))) ∷ ‵ (fobs (t .name) (codedHoleys u32 .code (heres u32 (t .now)))) ∷ ‵ (fauth (t .name) (codedHoleys u32 .code (heres u32 (t .now))))
+        ∷ ‵ (fobor κ₂ q₂ (Held u32 (length (u .now)) (u .ptr .0) (u .ptr .1) (u .name))) ∷ ‵ (fobs (u .name) (codedHoleys u32 .code (heres u32 (u .now)))) ∷ ‵ (fauth (u .name) (codedHoleys u32 .code (heres u32 (u .now))))
+        ∷ ‵ (fobor κ₃ q₃ (Held u8 (length (w .now)) (w .ptr .0) (w .ptr .1) (w .name))) ∷ ‵ (fobs (w .name) (codedHoleys u8 .code (heres u8 (w .now)))) ∷ ‵ (fauth (w .name) (codedHoleys u8 .code (heres u8 (w .now)))) ∷ ‵ (fdies S′.mir l₀) ∷ ‵ (fdies S₀ l₁)
+        ∷ ‵ (fdies S₁ l₂) ∷ ‵ (fdies S₂ l₃) ∷ ‵ (fdies S₃ l₄) ∷ ‵ (fdies word l₅) ∷ ‵ (fdies word l₆) ∷ ‵ (fdies word l₇) ∷ ‵ (fdies T′.mir l₈) ∷ ‵ (fdies word l₉) ∷ ‵ (fdies word l₁₀) ∷ ‵ (fdies word l₁₁)
+        ∷ ‵ (fdies tyBool l₁₂) ∷ ‵ (fdies word l₁₃) ∷ ‵ (fdies tyPtr l₁₄) ∷ ‵ (fdies T′.mir l₁₅) ∷ ‵ (fdies tyPtr l₁₆) ∷ ‵ (fdies tyPtr l₁₇) ∷ ‵ (fdies tyPtr l₁₈) ∷ ‵ (fdies (tyRef erased mut (tyInt w32)) l₁₉)
+        ∷ ‵ (fdies (sliceTy (tyRef erased mut (tyInt w32))) l₂₀) ∷ ‵ (fdies (tyRef erased mut (tyInt w32)) l₂₁) ∷ ‵ (fdies (sliceTy (tyRef erased mut (tyInt w32))) l₂₂) ∷ ‵ (fdies (tyRef erased mut (tyInt w8)) l₂₃)
+        ∷ ‵ (fdies (sliceTy (tyRef erased mut (tyInt w8))) l₂₄) ∷ []
 
     abbrev Less : ℕ → ℕ → Type 0
     Less x y = ρ - x < ρ - y
@@ -270,12 +284,26 @@ module _ {M : Type 1} (𝓤 : URA M) (H : Heap 𝓤) (A : Atoms 𝓤) (W : Given
     typed i g = LL.lawful T.the-type T′.the-laws 𝓤 H A W .typed (elem i) (T′.lowered (elem i) ∷ []) g .0
 
   abbrev En : (l₀ l₁ l₂ l₃ l₄ l₅ l₆ l₇ l₈ l₉ l₁₀ l₁₁ l₁₂ l₁₃ l₁₄ l₁₅ l₁₆ l₁₇ l₁₈ l₁₉ l₂₀ l₂₁ l₂₂ l₂₃ l₂₄ : ℕ) → Env 𝓤 H
-  En l₀ l₁ l₂ l₃ l₄ l₅ l₆ l₇ l₈ l₉ l₁₀ l₁₁ l₁₂ l₁₃ l₁₄ l₁₅ l₁₆ l₁₇ l₁₈ l₁₉ l₂₀ l₂₁ l₂₂ l₂₃ l₂₄ = (S′.mir, l₀) ∷ (S₀, l₁) ∷ (S₁, l₂) ∷ (S₂, l₃) ∷ (S₃, l₄) ∷ (word, l₅) ∷ (word, l₆) ∷ (word, l₇) ∷ (T′.mir, l₈) ∷ (word, l₉) ∷ (word, l₁₀) ∷ (word, l₁₁) ∷ (tyBool, l₁₂) ∷ (word, l₁₃) ∷ (tyPtr, l₁₄) ∷ (T′.mir, l₁₅) ∷ (tyPtr, l₁₆) ∷ (tyPtr, l₁₇) ∷ (tyPtr, l₁₈) ∷ ((tyRef erased mut (tyInt w32)), l₁₉) ∷ ((sliceTy (tyRef erased mut (tyInt w32))), l₂₀) ∷ ((tyRef erased mut (tyInt w32)), l₂₁) ∷ ((sliceTy (tyRef erased mut (tyInt w32))), l₂₂) ∷ ((tyRef erased mut (tyInt w8)), l₂₃) ∷ ((sliceTy (tyRef erased mut (tyInt w8))), l₂₄) ∷ []
+  En l₀ l₁ l₂ l₃ l₄ l₅ l₆ l₇ l₈ l₉ l₁₀ l₁₁ l₁₂ l₁₃ l₁₄ l₁₅ l₁₆ l₁₇ l₁₈ l₁₉ l₂₀ l₂₁ l₂₂ l₂₃ l₂₄ =
+      (S′.mir, l₀) ∷ (S₀, l₁) ∷ (S₁, l₂) ∷ (S₂, l₃) ∷ (S₃, l₄) ∷ (word, l₅) ∷ (word, l₆) ∷ (word, l₇) ∷ (T′.mir, l₈) ∷ (word, l₉) ∷ (word, l₁₀) ∷ (word, l₁₁) ∷ (tyBool, l₁₂) ∷ (word, l₁₃) ∷ (tyPtr, l₁₄) ∷ (
+        T′.mir,
+        l₁₅,
+      ) ∷ (tyPtr, l₁₆) ∷ (tyPtr, l₁₇) ∷ (tyPtr, l₁₈) ∷ ((tyRef erased mut (tyInt w32)), l₁₉) ∷ ((sliceTy (tyRef erased mut (tyInt w32))), l₂₀) ∷ ((tyRef erased mut (tyInt w32)), l₂₁) ∷ (
+        (sliceTy (tyRef erased mut (tyInt w32))),
+        l₂₂,
+      ) ∷ ((tyRef erased mut (tyInt w8)), l₂₃) ∷ ((sliceTy (tyRef erased mut (tyInt w8))), l₂₄) ∷ []
 
   module _ (𝓣 : Tables 𝓤 H) (fm : FmC 𝓤 H (W .laws) (𝓣 .C)) (known-room : Triple 𝓤 (𝓣 .C #rows·room-for) (RoomFor 𝓤 H A mem run)) (known-settle : Triple 𝓤 (𝓣 .C #rows·settle) (Settle 𝓤 H A mem run)) where
     module _ (ρ : ℕ) (e : ρ ≡ roomFor n (length (t .now)) (length (u .now)) (length (w .now))) (ρ-fits : ρ < 2 ^ 64) where
       -- a turn: it fills one row of the columns, or leaves the loop
-      turn : (q′ : Share) (l₀ l₁ l₂ l₃ l₄ l₅ l₆ l₇ l₈ l₉ l₁₀ l₁₁ l₁₂ l₁₃ l₁₄ l₁₅ l₁₆ l₁₇ l₁₈ l₁₉ l₂₀ l₂₁ l₂₂ l₂₃ l₂₄ : ℕ) (i : ℕ) → Seq Go W (Inv ρ e ρ-fits q′ l₀ l₁ l₂ l₃ l₄ l₅ l₆ l₇ l₈ l₉ l₁₀ l₁₁ l₁₂ l₁₃ l₁₄ l₁₅ l₁₆ l₁₇ l₁₈ l₁₉ l₂₀ l₂₁ l₂₂ l₂₃ l₂₄ i) (runs (𝓣 .C) (𝓣 .Λ) (En l₀ l₁ l₂ l₃ l₄ l₅ l₆ l₇ l₈ l₉ l₁₀ l₁₁ l₁₂ l₁₃ l₁₄ l₁₅ l₁₆ l₁₇ l₁₈ l₁₉ l₂₀ l₂₁ l₂₂ l₂₃ l₂₄) code.Mir.turn-1 (anyQ (afterTurn 𝓤 H (Below 𝓤 H A (Less ρ e ρ-fits) (Inv ρ e ρ-fits q′ l₀ l₁ l₂ l₃ l₄ l₅ l₆ l₇ l₈ l₉ l₁₀ l₁₁ l₁₂ l₁₃ l₁₄ l₁₅ l₁₆ l₁₇ l₁₈ l₁₉ l₂₀ l₂₁ l₂₂ l₂₃ l₂₄) i) (afterBlock 𝓤 H (afterSeq 𝓤 H (Wp 𝓤 H (𝓣 .C) (𝓣 .Λ) (En l₀ l₁ l₂ l₃ l₄ l₅ l₆ l₇ l₈ l₉ l₁₀ l₁₁ l₁₂ l₁₃ l₁₄ l₁₅ l₁₆ l₁₇ l₁₈ l₁₉ l₂₀ l₂₁ l₂₂ l₂₃ l₂₄) code.Mir.t-8 (atReturn 𝓤 H (En l₀ l₁ l₂ l₃ l₄ l₅ l₆ l₇ l₈ l₉ l₁₀ l₁₁ l₁₂ l₁₃ l₁₄ l₁₅ l₁₆ l₁₇ l₁₈ l₁₉ l₂₀ l₂₁ l₂₂ l₂₃ l₂₄) Post)) (atReturn 𝓤 H (En l₀ l₁ l₂ l₃ l₄ l₅ l₆ l₇ l₈ l₉ l₁₀ l₁₁ l₁₂ l₁₃ l₁₄ l₁₅ l₁₆ l₁₇ l₁₈ l₁₉ l₂₀ l₂₁ l₂₂ l₂₃ l₂₄) Post))))))
+      turn : (q′ : Share) (l₀ l₁ l₂ l₃ l₄ l₅ l₆ l₇ l₈ l₉ l₁₀ l₁₁ l₁₂ l₁₃ l₁₄ l₁₅ l₁₆ l₁₇ l₁₈ l₁₉ l₂₀ l₂₁ l₂₂ l₂₃ l₂₄ : ℕ) (i : ℕ) → Seq Go W
+          (Inv ρ e ρ-fits q′ l₀ l₁ l₂ l₃ l₄ l₅ l₆ l₇ l₈ l₉ l₁₀ l₁₁ l₁₂ l₁₃ l₁₄ l₁₅ l₁₆ l₁₇ l₁₈ l₁₉ l₂₀ l₂₁ l₂₂ l₂₃ l₂₄ i)
+          (runs (𝓣 .C) (𝓣 .Λ) (En l₀ l₁ l₂ l₃ l₄ l₅ l₆ l₇ l₈ l₉ l₁₀ l₁₁ l₁₂ l₁₃ l₁₄ l₁₅ l₁₆ l₁₇ l₁₈ l₁₉ l₂₀ l₂₁ l₂₂ l₂₃ l₂₄) code.Mir.turn-1
+          (anyQ (afterTurn 𝓤 H (Below 𝓤 H A (Less ρ e ρ-fits) (Inv ρ e ρ-fits q′ l₀ l₁ l₂ l₃ l₄ l₅ l₆ l₇ l₈ l₉ l₁₀ l₁₁ l₁₂ l₁₃ l₁₄ l₁₅ l₁₆ l₁₇ l₁₈ l₁₉ l₂₀ l₂₁ l₂₂ l₂₃ l₂₄) i)
+          (afterBlock 𝓤 H (afterSeq 𝓤 H
+          (Wp 𝓤 H (𝓣 .C) (𝓣 .Λ) (En l₀ l₁ l₂ l₃ l₄ l₅ l₆ l₇ l₈ l₉ l₁₀ l₁₁ l₁₂ l₁₃ l₁₄ l₁₅ l₁₆ l₁₇ l₁₈ l₁₉ l₂₀ l₂₁ l₂₂ l₂₃ l₂₄) code.Mir.t-8
+          (atReturn 𝓤 H (En l₀ l₁ l₂ l₃ l₄ l₅ l₆ l₇ l₈ l₉ l₁₀ l₁₁ l₁₂ l₁₃ l₁₄ l₁₅ l₁₆ l₁₇ l₁₈ l₁₉ l₂₀ l₂₁ l₂₂ l₂₃ l₂₄) Post))
+          (atReturn 𝓤 H (En l₀ l₁ l₂ l₃ l₄ l₅ l₆ l₇ l₈ l₉ l₁₀ l₁₁ l₁₂ l₁₃ l₁₄ l₁₅ l₁₆ l₁₇ l₁₈ l₁₉ l₂₀ l₂₁ l₂₂ l₂₃ l₂₄) Post))))))
       unfolding afterTurn
       turn q′ l₀ l₁ l₂ l₃ l₄ l₅ l₆ l₇ l₈ l₉ l₁₀ l₁₁ l₁₂ l₁₃ l₁₄ l₁₅ l₁₆ l₁₇ l₁₈ l₁₉ l₂₀ l₂₁ l₂₂ l₂₃ l₂₄ i = fltL ! (λ bd. by-cases (ltb i ρ)
           (λ h. let small : i < ρ = ltb→lt i ρ h in
@@ -335,13 +363,15 @@ module _ {M : Type 1} (𝓤 : URA M) (H : Heap 𝓤) (A : Atoms 𝓤) (W : Given
           forget ! 16 refl $
           forget ! 17 refl $
           fltI ! (i + 1) (suc ρ) (omega arith) $
-          keep ! (0 ∷ 4 ∷ 3 ∷ 2 ∷ 1 ∷ 5 ∷ 6 ∷ 7 ∷ 8 ∷ 9 ∷ 10 ∷ 11 ∷ 12 ∷ 13 ∷ 14 ∷ 15 ∷ 16 ∷ 17 ∷ 18 ∷ 19 ∷ 20 ∷ 21 ∷ 22 ∷ 23 ∷ 24 ∷ 25 ∷ 26 ∷ 27 ∷ 28 ∷ 29 ∷ 30 ∷ 31 ∷ 32 ∷ 33 ∷ 34 ∷ 35 ∷ 36 ∷ 37 ∷ 38 ∷ 39 ∷ 40 ∷ 41 ∷ 42 ∷ 43 ∷ 44 ∷ 45 ∷ 46 ∷ 47 ∷ 48 ∷ 49 ∷ 50 ∷ 51 ∷ 52 ∷ 53 ∷ 54 ∷ 55 ∷ 56 ∷ 57 ∷ 58 ∷ 59 ∷ 60 ∷ 61 ∷ 62 ∷ 63 ∷ 64 ∷ 65 ∷ 66 ∷ []) $
+          keep ! (0 ∷ 4 ∷ 3 ∷ 2 ∷ 1 ∷ 5 ∷ 6 ∷ 7 ∷ 8 ∷ 9 ∷ 10 ∷ 11 ∷ 12 ∷ 13 ∷ 14 ∷ 15 ∷ 16 ∷ 17 ∷ 18 ∷ 19 ∷ 20 ∷ 21 ∷ 22 ∷ 23 ∷ 24 ∷ 25 ∷ 26 ∷ 27 ∷ 28 ∷ 29 ∷ 30 ∷ 31 ∷ 32 ∷ 33 ∷ 34 ∷ 35 ∷ 36 ∷ 37 ∷ 38 ∷ 39 ∷ 40 ∷ 41
+          ∷ 42 ∷ 43 ∷ 44 ∷ 45 ∷ 46 ∷ 47 ∷ 48 ∷ 49 ∷ 50 ∷ 51 ∷ 52 ∷ 53 ∷ 54 ∷ 55 ∷ 56 ∷ 57 ∷ 58 ∷ 59 ∷ 60 ∷ 61 ∷ 62 ∷ 63 ∷ 64 ∷ 65 ∷ 66 ∷ []) $
           again ! (Less ρ e ρ-fits) (Inv ρ e ρ-fits q′ l₀ l₁ l₂ l₃ l₄ l₅ l₆ l₇ l₈ l₉ l₁₀ l₁₁ l₁₂ l₁₃ l₁₄ l₁₅ l₁₆ l₁₇ l₁₈ l₁₉ l₂₀ l₂₁ l₂₂ l₂₃ l₂₄) i (i + 1) (omega arith))))))
           (λ h. let big : ρ ≤ i = nltb→le i ρ h in
           let same : i ≡ ρ = omega arith in
           assigns ! (bin ! (load ! (from ! (stop !)) (look ! 6 refl)) (load ! (from ! (stop !)) (look ! 5 refl)) tt) (from ! (stop !)) (init ! 11 refl (tt, tt)) $
           rewrite ! 11 (λ (b : Bool). ‵ (fat fullShare tyBool l₁₂ 0 (vbool b))) (fails (ltb i ρ) h) refl $
-          leaves-loop ! (load ! (from ! (stop !)) (look ! 11 refl)) $ exec ! (𝓣 .C) (𝓣 .Λ) (En l₀ l₁ l₂ l₃ l₄ l₅ l₆ l₇ l₈ l₉ l₁₀ l₁₁ l₁₂ l₁₃ l₁₄ l₁₅ l₁₆ l₁₇ l₁₈ l₁₉ l₂₀ l₂₁ l₂₂ l₂₃ l₂₄) code.Mir.t-8 (atRet (En l₀ l₁ l₂ l₃ l₄ l₅ l₆ l₇ l₈ l₉ l₁₀ l₁₁ l₁₂ l₁₃ l₁₄ l₁₅ l₁₆ l₁₇ l₁₈ l₁₉ l₂₀ l₂₁ l₂₂ l₂₃ l₂₄) Post) $
+          leaves-loop ! (load ! (from ! (stop !)) (look ! 11 refl)) $ exec ! (𝓣 .C) (𝓣 .Λ) (En l₀ l₁ l₂ l₃ l₄ l₅ l₆ l₇ l₈ l₉ l₁₀ l₁₁ l₁₂ l₁₃ l₁₄ l₁₅ l₁₆ l₁₇ l₁₈ l₁₉ l₂₀ l₂₁ l₂₂ l₂₃ l₂₄) code.Mir.t-8
+          (atRet (En l₀ l₁ l₂ l₃ l₄ l₅ l₆ l₇ l₈ l₉ l₁₀ l₁₁ l₁₂ l₁₃ l₁₄ l₁₅ l₁₆ l₁₇ l₁₈ l₁₉ l₂₀ l₂₁ l₂₂ l₂₃ l₂₄) Post) $
           assigns ! (addr ! (from ! (fld ! refl (hop ! (look-in ! 25 (sub ! 0 refl (whole !))) (stop !))))) (from ! (stop !)) (init ! 18 refl (tt, tt)) $
           assigns ! (agg ! (and-then ! (load ! (from ! (stop !)) (look ! 18 refl)) (and-then ! (load ! (from ! (fld ! refl (stop !))) (look-in ! 25 (sub ! 1 refl (whole !)))) (no-more !)))) (from ! (stop !)) (init ! 19 refl (tt, (tt, (record { fits = g₁ .0 }, tt)))) $
           assigns ! (addr ! (from ! (fld ! refl (hop ! (look-in ! 26 (sub ! 0 refl (whole !))) (stop !))))) (from ! (stop !)) (init ! 20 refl (tt, tt)) $
@@ -385,7 +415,9 @@ module _ {M : Type 1} (𝓤 : URA M) (H : Heap 𝓤) (A : Atoms 𝓤) (W : Given
           fjoin ! $
           move ! (1 ∷ 0 ∷ []) $
           use2 W (raw (Settle 𝓤 H A mem run .pre (to-settle ρ e ρ-fits i))) (goes-settle ρ e ρ-fits i) $
-          calls-at ! fm (Settle 𝓤 H A mem run) known-settle (to-settle ρ e ρ-fits i) (and-then ! (load ! (from ! (stop !)) (look ! 2 refl)) (and-then ! (load ! (from ! (stop !)) (look ! 3 refl)) (and-then ! (load ! (from ! (stop !)) (look ! 17 refl)) (and-then ! (load ! (from ! (stop !)) (look ! 19 refl)) (and-then ! (load ! (from ! (stop !)) (look ! 21 refl)) (no-more !)))))) (λ y.
+          calls-at ! fm (Settle 𝓤 H A mem run) known-settle (to-settle ρ e ρ-fits i)
+          (and-then ! (load ! (from ! (stop !)) (look ! 2 refl))
+          (and-then ! (load ! (from ! (stop !)) (look ! 3 refl)) (and-then ! (load ! (from ! (stop !)) (look ! 17 refl)) (and-then ! (load ! (from ! (stop !)) (look ! 19 refl)) (and-then ! (load ! (from ! (stop !)) (look ! 21 refl)) (no-more !)))))) (λ y.
           use1 W (later (some (λ (r : Filled). ((‵ (flft κ₁ q₁) ⊛ ‵ (flft κ₂ q₂) ⊛ ‵ (flft κ₃ q₃) ⊛ ‵ ftrue) ⊛ ‵ (S.the-row .own r (y ∷ []))) ⊛ raw (ensured 𝓤 H A settle.ended (settle.clauses 𝓤 H A mem run) (κ₁, (κ₂, (κ₃, tt))) (settle-args ρ e ρ-fits i) tt r)))) (id⊢ 𝓤 _) $ await ! tt $ pick ! (λ r.
           split ! $
           move ! (1 ∷ []) $
@@ -487,7 +519,18 @@ module _ {M : Type 1} (𝓤 : URA M) (H : Heap 𝓤) (A : Atoms 𝓤) (W : Given
           by ! (exits ρ e ρ-fits i y r (zs .1 .1 .0) (zs .1 .1 .1 .0) (zs .1 .1 .1 .1 .0) same d (k₁ ∙ long1 i) (k₂ ∙ long2 i) (k₃ ∙ long3 i))))))))))))
 
       -- from the call of `room_for` on: the columns are opened, and the loop runs
-      opened : (l₀ l₁ l₂ l₃ l₄ l₅ l₆ l₇ l₈ l₉ l₁₀ l₁₁ l₁₂ l₁₃ l₁₄ l₁₅ l₁₆ l₁₇ l₁₈ l₁₉ l₂₀ l₂₁ l₂₂ l₂₃ l₂₄ : ℕ) → Seq Go W (‵ (froom (sliceTy (tyRef erased mut (tyInt w8))) l₂₄ 0) ∷ ‵ (fdies (sliceTy (tyRef erased mut (tyInt w8))) l₂₄) ∷ ‵ (froom (tyRef erased mut (tyInt w8)) l₂₃ 0) ∷ ‵ (fdies (tyRef erased mut (tyInt w8)) l₂₃) ∷ ‵ (froom (sliceTy (tyRef erased mut (tyInt w32))) l₂₂ 0) ∷ ‵ (fdies (sliceTy (tyRef erased mut (tyInt w32))) l₂₂) ∷ ‵ (froom (tyRef erased mut (tyInt w32)) l₂₁ 0) ∷ ‵ (fdies (tyRef erased mut (tyInt w32)) l₂₁) ∷ ‵ (froom (sliceTy (tyRef erased mut (tyInt w32))) l₂₀ 0) ∷ ‵ (fdies (sliceTy (tyRef erased mut (tyInt w32))) l₂₀) ∷ ‵ (froom (tyRef erased mut (tyInt w32)) l₁₉ 0) ∷ ‵ (fdies (tyRef erased mut (tyInt w32)) l₁₉) ∷ ‵ (froom tyPtr l₁₈ 0) ∷ ‵ (fdies tyPtr l₁₈) ∷ ‵ (froom tyPtr l₁₇ 0) ∷ ‵ (fdies tyPtr l₁₇) ∷ ‵ (froom tyPtr l₁₆ 0) ∷ ‵ (fdies tyPtr l₁₆) ∷ ‵ (froom T′.mir l₁₅ 0) ∷ ‵ (fdies T′.mir l₁₅) ∷ ‵ (froom tyPtr l₁₄ 0) ∷ ‵ (fdies tyPtr l₁₄) ∷ ‵ (froom word l₁₃ 0) ∷ ‵ (fdies word l₁₃) ∷ ‵ (froom tyBool l₁₂ 0) ∷ ‵ (fdies tyBool l₁₂) ∷ ‵ (fat fullShare word l₁₁ 0 (vint w64 (length (w .now)))) ∷ ‵ (fdies word l₁₁) ∷ ‵ (fat fullShare word l₁₀ 0 (vint w64 (length (u .now)))) ∷ ‵ (fdies word l₁₀) ∷ ‵ (fat fullShare word l₉ 0 (vint w64 (length (t .now)))) ∷ ‵ (fdies word l₉) ∷ ‵ (froom T′.mir l₈ 0) ∷ ‵ (fdies T′.mir l₈) ∷ ‵ (froom word l₇ 0) ∷ ‵ (fdies word l₇) ∷ ‵ (fat fullShare word l₆ 0 (vint w64 ρ)) ∷ ‵ (fdies word l₆) ∷ ‵ (fat fullShare word l₅ 0 (vint w64 n)) ∷ ‵ (fdies word l₅) ∷ ‵ (fat fullShare S₃ l₄ 0 v₃) ∷ ‵ (fdies S₃ l₄) ∷ ‵ (fat fullShare S₂ l₃ 0 v₂) ∷ ‵ (fdies S₂ l₃) ∷ ‵ (fat fullShare S₁ l₂ 0 v₁) ∷ ‵ (fdies S₁ l₂) ∷ ‵ (fat fullShare S₀ l₁ 0 v₀) ∷ ‵ (fdies S₀ l₁) ∷ ‵ (froom S′.mir l₀ 0) ∷ ‵ (fdies S′.mir l₀) ∷ (‵ (flft κ₀ q₀) ⊛ ‵ (flft κ₁ q₁) ⊛ ‵ (flft κ₂ q₂) ⊛ ‵ (flft κ₃ q₃) ⊛ ‵ ftrue) ∷ ‵ (owns (ShrSlice (named 0) κ₀ T.the-row ∷ MutSlice (named 1) κ₁ u32 ∷ MutSlice (named 2) κ₂ u32 ∷ MutSlice (named 3) κ₃ u8 ∷ []) (s, (t, (u, (w, tt)))) at) ∷ []) (runs (𝓣 .C) (𝓣 .Λ) (En l₀ l₁ l₂ l₃ l₄ l₅ l₆ l₇ l₈ l₉ l₁₀ l₁₁ l₁₂ l₁₃ l₁₄ l₁₅ l₁₆ l₁₇ l₁₈ l₁₉ l₂₀ l₂₁ l₂₂ l₂₃ l₂₄) code.Mir.t-6 (atRet (En l₀ l₁ l₂ l₃ l₄ l₅ l₆ l₇ l₈ l₉ l₁₀ l₁₁ l₁₂ l₁₃ l₁₄ l₁₅ l₁₆ l₁₇ l₁₈ l₁₉ l₂₀ l₂₁ l₂₂ l₂₃ l₂₄) Post))
+      opened : (l₀ l₁ l₂ l₃ l₄ l₅ l₆ l₇ l₈ l₉ l₁₀ l₁₁ l₁₂ l₁₃ l₁₄ l₁₅ l₁₆ l₁₇ l₁₈ l₁₉ l₂₀ l₂₁ l₂₂ l₂₃ l₂₄ : ℕ) → Seq Go W (‵ (froom (sliceTy (tyRef erased mut (tyInt w8))) l₂₄ 0)
+          ∷ ‵ (fdies (sliceTy (tyRef erased mut (tyInt w8))) l₂₄) ∷ ‵ (froom (tyRef erased mut (tyInt w8)) l₂₃ 0) ∷ ‵ (fdies (tyRef erased mut (tyInt w8)) l₂₃) ∷ ‵ (froom (sliceTy (tyRef erased mut (tyInt w32))) l₂₂ 0)
+          ∷ ‵ (fdies (sliceTy (tyRef erased mut (tyInt w32))) l₂₂) ∷ ‵ (froom (tyRef erased mut (tyInt w32)) l₂₁ 0) ∷ ‵ (fdies (tyRef erased mut (tyInt w32)) l₂₁) ∷ ‵ (froom (sliceTy (tyRef erased mut (tyInt w32))) l₂₀ 0)
+          ∷ ‵ (fdies (sliceTy (tyRef erased mut (tyInt w32))) l₂₀) ∷ ‵ (froom (tyRef erased mut (tyInt w32)) l₁₉ 0) ∷ ‵ (fdies (tyRef erased mut (tyInt w32)) l₁₉) ∷ ‵ (froom tyPtr l₁₈ 0) ∷ ‵ (fdies tyPtr l₁₈) ∷ ‵ (froom tyPtr l₁₇ 0)
+          ∷ ‵ (fdies tyPtr l₁₇) ∷ ‵ (froom tyPtr l₁₆ 0) ∷ ‵ (fdies tyPtr l₁₆) ∷ ‵ (froom T′.mir l₁₅ 0) ∷ ‵ (fdies T′.mir l₁₅) ∷ ‵ (froom tyPtr l₁₄ 0) ∷ ‵ (fdies tyPtr l₁₄) ∷ ‵ (froom word l₁₃ 0) ∷ ‵ (fdies word l₁₃)
+          ∷ ‵ (froom tyBool l₁₂ 0) ∷ ‵ (fdies tyBool l₁₂) ∷ ‵ (fat fullShare word l₁₁ 0 (vint w64 (length (w .now)))) ∷ ‵ (fdies word l₁₁) ∷ ‵ (fat fullShare word l₁₀ 0 (vint w64 (length (u .now)))) ∷ ‵ (fdies word l₁₀)
+          ∷ ‵ (fat fullShare word l₉ 0 (vint w64 (length (t .now)))) ∷ ‵ (fdies word l₉) ∷ ‵ (froom T′.mir l₈ 0) ∷ ‵ (fdies T′.mir l₈) ∷ ‵ (froom word l₇ 0) ∷ ‵ (fdies word l₇) ∷ ‵ (fat fullShare word l₆ 0 (vint w64 ρ)) ∷ ‵ (fdies word l₆)
+          ∷ ‵ (fat fullShare word l₅ 0 (vint w64 n)) ∷ ‵ (fdies word l₅) ∷ ‵ (fat fullShare S₃ l₄ 0 v₃) ∷ ‵ (fdies S₃ l₄) ∷ ‵ (fat fullShare S₂ l₃ 0 v₂) ∷ ‵ (fdies S₂ l₃) ∷ ‵ (fat fullShare S₁ l₂ 0 v₁) ∷ ‵ (fdies S₁ l₂)
+          ∷ ‵ (fat fullShare S₀ l₁ 0 v₀) ∷ ‵ (fdies S₀ l₁) ∷ ‵ (froom S′.mir l₀ 0) ∷ ‵ (fdies S′.mir l₀) ∷ (‵ (flft κ₀ q₀) ⊛ ‵ (flft κ₁ q₁) ⊛ ‵ (flft κ₂ q₂) ⊛ ‵ (flft κ₃ q₃) ⊛ ‵ ftrue)
+          ∷ ‵ (owns (ShrSlice (named 0) κ₀ T.the-row ∷ MutSlice (named 1) κ₁ u32 ∷ MutSlice (named 2) κ₂ u32 ∷ MutSlice (named 3) κ₃ u8 ∷ []) (s, (t, (u, (w, tt)))) at) ∷ [])
+          (runs (𝓣 .C) (𝓣 .Λ) (En l₀ l₁ l₂ l₃ l₄ l₅ l₆ l₇ l₈ l₉ l₁₀ l₁₁ l₁₂ l₁₃ l₁₄ l₁₅ l₁₆ l₁₇ l₁₈ l₁₉ l₂₀ l₂₁ l₂₂ l₂₃ l₂₄) code.Mir.t-6
+          (atRet (En l₀ l₁ l₂ l₃ l₄ l₅ l₆ l₇ l₈ l₉ l₁₀ l₁₁ l₁₂ l₁₃ l₁₄ l₁₅ l₁₆ l₁₇ l₁₈ l₁₉ l₂₀ l₂₁ l₂₂ l₂₃ l₂₄) Post))
       opened l₀ l₁ l₂ l₃ l₄ l₅ l₆ l₇ l₈ l₉ l₁₀ l₁₁ l₁₂ l₁₃ l₁₄ l₁₅ l₁₆ l₁₇ l₁₈ l₁₉ l₂₀ l₂₁ l₂₂ l₂₃ l₂₄ =
           assigns ! (of-opd ! (lit ! tt)) (from ! (stop !)) (init ! 34 refl (tt, record { fits = lit< tt })) $
           forget ! 30 refl $
@@ -534,14 +577,23 @@ module _ {M : Type 1} (𝓤 : URA M) (H : Heap 𝓤) (A : Atoms 𝓤) (W : Given
           rewrite ! 0 (λ (l : List ℕ). ‵ (row u8 fullShare l (w .ptr .0) (w .ptr .1))) (sym (filled-none weakOf (s .now) (w .now))) refl $
           fltI ! 0 (suc ρ) (omega arith) $
           first ! $ blocks ! $
-          keep ! (0 ∷ 13 ∷ 9 ∷ 5 ∷ 1 ∷ 57 ∷ 55 ∷ 53 ∷ 51 ∷ 49 ∷ 47 ∷ 45 ∷ 43 ∷ 41 ∷ 39 ∷ 37 ∷ 35 ∷ 33 ∷ 31 ∷ 29 ∷ 27 ∷ 25 ∷ 23 ∷ 21 ∷ 19 ∷ 65 ∷ 63 ∷ 61 ∷ 59 ∷ 67 ∷ 14 ∷ 15 ∷ 18 ∷ 10 ∷ 11 ∷ 12 ∷ 6 ∷ 7 ∷ 8 ∷ 2 ∷ 3 ∷ 4 ∷ 68 ∷ 66 ∷ 64 ∷ 62 ∷ 60 ∷ 58 ∷ 56 ∷ 54 ∷ 52 ∷ 50 ∷ 48 ∷ 46 ∷ 44 ∷ 42 ∷ 40 ∷ 38 ∷ 36 ∷ 34 ∷ 32 ∷ 30 ∷ 28 ∷ 26 ∷ 24 ∷ 22 ∷ 20 ∷ []) $
-          loops ! 𝓣 (Less ρ e ρ-fits) (InvImage·wf (λ (i : ℕ). ρ - i) (Nat·lt-wfRel .wf)) (Inv ρ e ρ-fits q′ l₀ l₁ l₂ l₃ l₄ l₅ l₆ l₇ l₈ l₉ l₁₀ l₁₁ l₁₂ l₁₃ l₁₄ l₁₅ l₁₆ l₁₇ l₁₈ l₁₉ l₂₀ l₂₁ l₂₂ l₂₃ l₂₄) (turn q′ l₀ l₁ l₂ l₃ l₄ l₅ l₆ l₇ l₈ l₉ l₁₀ l₁₁ l₁₂ l₁₃ l₁₄ l₁₅ l₁₆ l₁₇ l₁₈ l₁₉ l₂₀ l₂₁ l₂₂ l₂₃ l₂₄) 0)
+          keep ! (0 ∷ 13 ∷ 9 ∷ 5 ∷ 1 ∷ 57 ∷ 55 ∷ 53 ∷ 51 ∷ 49 ∷ 47 ∷ 45 ∷ 43 ∷ 41 ∷ 39 ∷ 37 ∷ 35 ∷ 33 ∷ 31 ∷ 29 ∷ 27 ∷ 25 ∷ 23 ∷ 21 ∷ 19 ∷ 65 ∷ 63 ∷ 61 ∷ 59 ∷ 67 ∷ 14 ∷ 15 ∷ 18 ∷ 10 ∷ 11 ∷ 12 ∷ 6 ∷ 7 ∷ 8 ∷ 2 ∷ 3 ∷ 4
+          ∷ 68 ∷ 66 ∷ 64 ∷ 62 ∷ 60 ∷ 58 ∷ 56 ∷ 54 ∷ 52 ∷ 50 ∷ 48 ∷ 46 ∷ 44 ∷ 42 ∷ 40 ∷ 38 ∷ 36 ∷ 34 ∷ 32 ∷ 30 ∷ 28 ∷ 26 ∷ 24 ∷ 22 ∷ 20 ∷ []) $
+          loops ! 𝓣 (Less ρ e ρ-fits) (InvImage·wf (λ (i : ℕ). ρ - i) (Nat·lt-wfRel .wf)) (Inv ρ e ρ-fits q′ l₀ l₁ l₂ l₃ l₄ l₅ l₆ l₇ l₈ l₉ l₁₀ l₁₁ l₁₂ l₁₃ l₁₄ l₁₅ l₁₆ l₁₇ l₁₈ l₁₉ l₂₀ l₂₁ l₂₂ l₂₃ l₂₄)
+          (turn q′ l₀ l₁ l₂ l₃ l₄ l₅ l₆ l₇ l₈ l₉ l₁₀ l₁₁ l₁₂ l₁₃ l₁₄ l₁₅ l₁₆ l₁₇ l₁₈ l₁₉ l₂₀ l₂₁ l₂₂ l₂₃ l₂₄) 0)
 
     walk : ent 𝓤 (onEntry 𝓤 H A fill.signature (κ₀, (κ₁, (κ₂, (κ₃, tt)))) (q₀, (q₁, (q₂, (q₃, tt)))) (s, (t, (u, (w, tt)))) at) (WpFn 𝓤 H (𝓣 .C) (𝓣 .Λ) code.function (v₀ ∷ v₁ ∷ v₂ ∷ v₃ ∷ []) Post)
     walk =
         qed W ((‵ (flft κ₀ q₀) ⊛ ‵ (flft κ₁ q₁) ⊛ ‵ (flft κ₂ q₂) ⊛ ‵ (flft κ₃ q₃) ⊛ ‵ ftrue) ∷ ‵ (owns (ShrSlice (named 0) κ₀ T.the-row ∷ MutSlice (named 1) κ₁ u32 ∷ MutSlice (named 2) κ₂ u32 ∷ MutSlice (named 3) κ₃ u8 ∷ []) (s, (t, (u, (w, tt)))) at) ∷ []) ∵
         enter ! (𝓣 .C) (𝓣 .Λ) code.function (v₀ ∷ v₁ ∷ v₂ ∷ v₃ ∷ []) _ $
-        alloc1 ! (λ l₀. alloc1 ! (λ l₁. alloc1 ! (λ l₂. alloc1 ! (λ l₃. alloc1 ! (λ l₄. alloc1 ! (λ l₅. alloc1 ! (λ l₆. alloc1 ! (λ l₇. alloc1 ! (λ l₈. alloc1 ! (λ l₉. alloc1 ! (λ l₁₀. alloc1 ! (λ l₁₁. alloc1 ! (λ l₁₂. alloc1 ! (λ l₁₃. alloc1 ! (λ l₁₄. alloc1 ! (λ l₁₅. alloc1 ! (λ l₁₆. alloc1 ! (λ l₁₇. alloc1 ! (λ l₁₈. alloc1 ! (λ l₁₉. alloc1 ! (λ l₂₀. alloc1 ! (λ l₂₁. alloc1 ! (λ l₂₂. alloc1 ! (λ l₂₃. alloc1 ! (λ l₂₄. alloc0 ! $ params1 ! $
+        alloc1 ! (λ l₀. alloc1 ! (λ l₁. alloc1 !
+        (λ l₂. alloc1 ! (λ l₃. alloc1 !
+        (λ l₄. alloc1 ! (λ l₅. alloc1 !
+        (λ l₆. alloc1 ! (λ l₇. alloc1 !
+        (λ l₈. alloc1 ! (λ l₉. alloc1 !
+        (λ l₁₀. alloc1 ! (λ l₁₁. alloc1 !
+        (λ l₁₂. alloc1 ! (λ l₁₃. alloc1 !
+        (λ l₁₄. alloc1 ! (λ l₁₅. alloc1 ! (λ l₁₆. alloc1 ! (λ l₁₇. alloc1 ! (λ l₁₈. alloc1 ! (λ l₁₉. alloc1 ! (λ l₂₀. alloc1 ! (λ l₂₁. alloc1 ! (λ l₂₂. alloc1 ! (λ l₂₃. alloc1 ! (λ l₂₄. alloc0 ! $ params1 ! $
         pass1 ! (init ! 46 refl (tt, (tt, (record { fits = g₀ .0 }, tt)))) $
         pass1 ! (init ! 44 refl (tt, (tt, (record { fits = g₁ .0 }, tt)))) $
         pass1 ! (init ! 42 refl (tt, (tt, (record { fits = g₂ .0 }, tt)))) $
@@ -586,7 +638,9 @@ module _ {M : Type 1} (𝓤 : URA M) (H : Heap 𝓤) (A : Atoms 𝓤) (W : Given
       (are .0 .0 .1) (are .1 .0 .0 .1) (are .1 .1 .0 .0 .1) (are .1 .1 .1 .0 .0 .1) 𝓣 (fmOf 𝓤 H (W .laws) 𝓣) known-room known-settle))
 
   fill-meets : Meets 𝓤 H A fill.signature (WpFn 𝓤 H (𝓣 .C) (𝓣 .Λ) code.function) (fill.spec 𝓤 H A mem run)
-  fill-meets = walk-meets 𝓤 H A fill.ended stayed W (goes-none-slice 𝓤 H A W 4 (0 ∷ []) tt (plain (λ _. T.the-row)) yes, (goes-gave-slice 𝓤 H A W 4 1 tt (plain (λ _. u32)), (goes-gave-slice 𝓤 H A W 4 2 tt (plain (λ _. u32)), (goes-gave-slice 𝓤 H A W 4 3 tt (plain (λ _. u8)), tt)))) (fill.clauses 𝓤 H A mem run) (WpFn 𝓤 H (𝓣 .C) (𝓣 .Λ) code.function) (WpFn-mono 𝓤 H (W .laws) 𝓣 code.function) fill-walks
+  fill-meets = walk-meets 𝓤 H A fill.ended stayed W
+      (goes-none-slice 𝓤 H A W 4 (0 ∷ []) tt (plain (λ _. T.the-row)) yes, (goes-gave-slice 𝓤 H A W 4 1 tt (plain (λ _. u32)), (goes-gave-slice 𝓤 H A W 4 2 tt (plain (λ _. u32)), (goes-gave-slice 𝓤 H A W 4 3 tt (plain (λ _. u8)), tt)))) (fill.clauses 𝓤 H A mem run)
+      (WpFn 𝓤 H (𝓣 .C) (𝓣 .Λ) code.function) (WpFn-mono 𝓤 H (W .laws) 𝓣 code.function) fill-walks
 
 pub fill-rows-spec : {M : Type 1} → stated.statement M
 unfolding code.routine tablesOf

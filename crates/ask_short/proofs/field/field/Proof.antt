@@ -5,8 +5,8 @@ use Prim.Native.Nat.{ℕ}
 use native.Mathlib.Omega.{arith}
 use Rattle.columns.specs.Columns.{accepts}
 use Rattle.rules.specs.Types.{spanSays}
-use Rattle.ask_graph.proofs.Spans.{span-inside}
-use Rattle.ask_graph.proofs.Fields.{sought-within, field-is, field-refused}
+use Rattle.ask_span.proofs.Spans.{span-inside}
+use Rattle.ask_field.proofs.Fields.{sought-within, field-is, field-refused}
 use borrow.Author.Needs.{needs}
 use Rattle.ask_short.proofs.field.field.Statement.{statement}
 use Rattle.ask_short.proofs.field.field.Tie as tie

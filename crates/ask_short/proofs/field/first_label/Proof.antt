@@ -3,8 +3,8 @@ use Prim.Native.Nat.{_-_}
 use mathlib.Core.Path.{sym, ap, _∙_}
 use Rattle.columns.proofs.First.{Searching, searching-start}
 use Rattle.labels.specs.Reading.{readSays}
-use Rattle.ask_graph.specs.Sought.{stops}
-use Rattle.ask_graph.proofs.Placed.{decoded-more, decoded-hit, decoded-bad, decoded-end}
+use Rattle.ask_field.specs.Sought.{stops}
+use Rattle.ask_field.proofs.Placed.{decoded-more, decoded-hit, decoded-bad, decoded-end}
 use Rattle.ask_short.specs.Lean.{plainOf}
 use borrow.Author.Needs.{needs}
 use Rattle.ask_short.proofs.field.first_label.Statement.{statement}

@@ -2,8 +2,8 @@
 use mathlib.Core.Path.{refl, sym, ap, _∙_}
 use Rattle.columns.specs.Columns.{accepts}
 use Rattle.rules.specs.Types.{fieldSays}
-use Rattle.ask_graph.specs.Sought.{fieldFound}
-use Rattle.ask_graph.proofs.Fields.{referent-field, referent-weak, referent-refused}
+use Rattle.ask_field.specs.Sought.{fieldFound}
+use Rattle.ask_field.proofs.Fields.{referent-field, referent-weak, referent-refused}
 use borrow.Author.Needs.{needs}
 use Rattle.ask_short.proofs.field.referent.Statement.{statement}
 use Rattle.ask_short.proofs.field.referent.Tie as tie

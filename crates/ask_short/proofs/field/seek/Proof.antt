@@ -2,24 +2,30 @@
 use mathlib.Core.Path.{_∙_}
 use mathlib.Core.List.{[]}
 use Rattle.labels.specs.Reading.{codedOf}
-use Rattle.ask_graph.proofs.Fields.{sought-element, sought-other, sought-decoded, sought-coded}
+use Rattle.ask_field.proofs.Fields.{sought-element, sought-other, sought-decoded, sought-coded}
 use borrow.Author.Needs.{needs}
 use Rattle.ask_short.proofs.field.seek.Statement.{statement}
 use Rattle.ask_short.proofs.field.seek.Tie as tie
 
 returns : tie.Need-returns
-returns c = c .first-element .ensures ∙ sought-element (codedOf (c .before .before .before .before .before .args .codes .now) (c .before .before .before .before .before .args .fields .now) [] []) (c .before .before .before .before .before .args .table .now) (c .before .before .before .before .before .args .start) (c .before .before .before .before .before .args .count) (c .before .before .before .before .before .args .label) (c .before .if1 .taken)
+returns c =
+    let a = c .before .before .before .before .before .args in
+    c .first-element .ensures ∙ sought-element (codedOf (a .codes .now) (a .fields .now) [] []) (a .table .now) (a .start) (a .count) (a .label) (c .before .if1 .taken)
 
 returns-2 : tie.Need-returns-2
-returns-2 c = sought-other (codedOf (c .before .before .before .before .before .args .codes .now) (c .before .before .before .before .before .args .fields .now) [] []) (c .before .before .before .before .before .args .table .now) (c .before .before .before .before .before .args .start) (c .before .before .before .before .before .args .count) (c .before .before .before .before .before .args .label) (c .before .if1 .left) (c .if2 .taken)
+returns-2 c =
+    let a = c .before .before .before .before .before .args in
+    sought-other (codedOf (a .codes .now) (a .fields .now) [] []) (a .table .now) (a .start) (a .count) (a .label) (c .before .if1 .left) (c .if2 .taken)
 
 returns-3 : tie.Need-returns-3
 returns-3 c =
-    c .first-label .ensures ∙ sought-decoded (codedOf (c .before .before .before .before .before .before .before .before .args .codes .now) (c .before .before .before .before .before .before .before .before .args .fields .now) [] []) (c .before .before .before .before .before .before .before .before .args .table .now) (c .before .before .before .before .before .before .before .before .args .start) (c .before .before .before .before .before .before .before .before .args .count) (c .before .before .before .before .before .before .before .before .args .label) (c .before .before .before .before .if1 .left) (c .before .before .before .if2 .left) (c .before .before .code-of .ensures) (c .before .if3 .taken)
+    let a = c .before .before .before .before .before .before .before .before .args in
+    c .first-label .ensures ∙ sought-decoded (codedOf (a .codes .now) (a .fields .now) [] []) (a .table .now) (a .start) (a .count) (a .label) (c .before .before .before .before .if1 .left) (c .before .before .before .if2 .left) (c .before .before .code-of .ensures) (c .before .if3 .taken)
 
 returns-4 : tie.Need-returns-4
 returns-4 c =
-    c .first-code .ensures ∙ sought-coded (codedOf (c .before .before .before .before .before .before .before .before .args .codes .now) (c .before .before .before .before .before .before .before .before .args .fields .now) [] []) (c .before .before .before .before .before .before .before .before .args .table .now) (c .before .before .before .before .before .before .before .before .args .start) (c .before .before .before .before .before .before .before .before .args .count) (c .before .before .before .before .before .before .before .before .args .label) (c .before .before .before .before .if1 .left) (c .before .before .before .if2 .left) (c .before .before .code-of .ensures) (c .before .if3 .left)
+    let a = c .before .before .before .before .before .before .before .before .args in
+    c .first-code .ensures ∙ sought-coded (codedOf (a .codes .now) (a .fields .now) [] []) (a .table .now) (a .start) (a .count) (a .label) (c .before .before .before .before .if1 .left) (c .before .before .before .if2 .left) (c .before .before .code-of .ensures) (c .before .if3 .left)
 
 pub seek-spec : {M : Type 1} → statement M
 seek-spec =

@@ -24,10 +24,17 @@ fit-places-requires c κs =
     (sym (ap (λ (b : Checked). checkedSays b ! 1) (given c)) ∙ h .2, (h .0, h .1))
 
 returns : tie.Need-returns
-returns c = not-counted (checkedSays (c .before .before .before .before .before .before .before .before .before .before .before .before .before .before .before .before .before .before .before .before .args .tested)) _ _ (ap checkedSays (c .before .tested .given .1)) (ap (λ (b : Checked). accepts (checkedSays b)) (c .before .tested .given .1) ∙ refusal-refuses (c .before .tested .given .0 .0))
+returns c =
+    let s = c .before .before .before .before .before .before .before .before .before .before .before .before .before .before .before .before .before .before .before .before in
+    not-counted (checkedSays (s .args .tested)) _ _ (ap checkedSays (c .before .tested .given .1))
+    (ap (λ (b : Checked). accepts (checkedSays b)) (c .before .tested .given .1) ∙ refusal-refuses (c .before .tested .given .0 .0))
 
 returns-2 : tie.Need-returns-2
-returns-2 c = counted-fit (c .before .before .before .before .before .before .before .before .before .before .before .before .before .before .before .before .before .before .before .before .before .before .before .args .room) _ _ (checkedSays (c .before .before .before .before .before .before .before .before .before .before .before .before .before .before .before .before .before .before .before .before .before .before .before .args .tested)) (ok (c .before .before)) (c .before .before .least-room .ensures) (c .before .fit-places .ensures) (c .limited .ensures)
+returns-2 c =
+    let s = c .before .before .before .before .before .before .before .before .before .before .before .before .before .before .before .before .before .before .before .before
+    .before .before .before in
+    counted-fit (s .args .room) _ _ (checkedSays (s .args .tested)) (ok (c .before .before)) (c .before .before .least-room .ensures) (c .before .fit-places .ensures)
+    (c .limited .ensures)
 
 pub count-copied-spec : {M : Type 1} → statement M
 count-copied-spec =

@@ -18,7 +18,10 @@ raw-places-requires : tie.Need-raw-places-requires
 raw-places-requires c κs = c .before .before .before .before .before .before .before .before .before .before .before .before .before .before .before .pre (ok c)
 
 returns : tie.Need-returns
-returns c = sym (ap checkedSays (c .before .tested .given .1)) ∙ counted-not (checkedSays (c .before .before .before .before .before .before .before .before .before .before .before .before .before .before .before .before .args .tested)) _ _ (ap (λ (b : Checked). accepts (checkedSays b)) (c .before .tested .given .1) ∙ refusal-refuses (c .before .tested .given .0 .0))
+returns c =
+    let s = c .before .before .before .before .before .before .before .before .before .before .before .before .before .before .before .before in
+    sym (ap checkedSays (c .before .tested .given .1)) ∙ counted-not (checkedSays (s .args .tested)) _ _
+    (ap (λ (b : Checked). accepts (checkedSays b)) (c .before .tested .given .1) ∙ refusal-refuses (c .before .tested .given .0 .0))
 
 returns-2 : tie.Need-returns-2
 returns-2 c = counted-on (checkedSays (c .before .before .before .before .before .before .before .before .before .before .before .before .before .before .before .before .before .args .tested)) (ok (c .before .before)) (c .before .raw-places .ensures) (c .limited .ensures)

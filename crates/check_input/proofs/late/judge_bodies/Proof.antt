@@ -34,11 +34,15 @@ returns c =
 
 returns-2 : tie.Need-returns-2
 returns-2 c =
-    late-root (inputOf (c .before .before .before .before .before .before .before .before .before .before .before)) (0 ∷ 0 ∷ []) (clean (c .before .before .before .before .before .before .before .before .before .before .before)) (part (c .before .before .before)) (c .before .before .if1 .left) (c .before .first-root .ensures) (c .if2 .taken)
+    let p = c .before .before .before in
+    let s = p .before .before .before .before .before .before .before .before in
+    late-root (inputOf s) (0 ∷ 0 ∷ []) (clean s) (part p) (c .before .before .if1 .left) (c .before .first-root .ensures) (c .if2 .taken)
 
 returns-3 : tie.Need-returns-3
 returns-3 c =
-    late-none (inputOf (c .before .before .before .before .before .before .before .before .before .before .before)) (0 ∷ 0 ∷ []) (clean (c .before .before .before .before .before .before .before .before .before .before .before)) (part (c .before .before .before)) (c .before .before .if1 .left) (c .before .first-root .ensures) (c .if2 .left)
+    let p = c .before .before .before in
+    let s = p .before .before .before .before .before .before .before .before in
+    late-none (inputOf s) (0 ∷ 0 ∷ []) (clean s) (part p) (c .before .before .if1 .left) (c .before .first-root .ensures) (c .if2 .left)
 
 pub judge-bodies-spec : {M : Type 1} → statement M
 judge-bodies-spec =

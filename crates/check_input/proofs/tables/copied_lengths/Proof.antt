@@ -25,7 +25,13 @@ returns-4 c = last-fourth _ _ _ _ (sym (c .before .differ2 .ensures) ∙ c .if4 
 returns-5 : tie.Need-returns-5
 unfolding badLengths routeLengths schemaLengths
 returns-5 c =
-    last-none _ _ _ _ (sym (c .before .before .before .before .before .before .before .differ3 .ensures) ∙ c .before .before .before .before .before .before .if1 .left) (sym (c .before .before .before .before .before .schema-lengths .ensures) ∙ c .before .before .before .before .if2 .left) (sym (c .before .before .before .differ .ensures) ∙ c .before .before .if3 .left) (sym (c .before .differ2 .ensures) ∙ c .if4 .left)
+    let at-differ = c .before .before .before in
+    let at-if2 = at-differ .before in
+    let at-schema-lengths = at-if2 .before in
+    let at-if1 = at-schema-lengths .before in
+    let at-differ3 = at-if1 .before in
+    last-none _ _ _ _ (sym (at-differ3 .differ3 .ensures) ∙ at-if1 .if1 .left) (sym (at-schema-lengths .schema-lengths .ensures) ∙ at-if2 .if2 .left)
+    (sym (at-differ .differ .ensures) ∙ c .before .before .if3 .left) (sym (c .before .differ2 .ensures) ∙ c .if4 .left)
 
 pub copied-lengths-spec : {M : Type 1} → statement M
 copied-lengths-spec =

@@ -15,7 +15,8 @@ use Rattle.check_input.proofs.tables.first_dumped.Tie as tie
 
 first-find-requires : tie.Need-first-find-requires
 first-find-requires c κs =
-    (c .before .before .before .before .before .before .before .before .before .before .before .before .before .before .before .before .pre .0, (c .before .before .before .before .before .before .before .before .before .before .before .before .before .before .before .before .pre .1 .0, (c .before .before .before .before .before .before .before .before .before .before .before .before .before .before .before .before .pre .1 .1 .0, c .before .before .before .before .before .before .before .before .before .before .before .before .before .before .before .before .pre .1 .1 .1 .0)))
+    let s = c .before .before .before .before .before .before .before .before .before .before .before .before .before .before .before .before in
+    (s .pre .0, (s .pre .1 .0, (s .pre .1 .1 .0, s .pre .1 .1 .1 .0)))
 
 first-class-requires : tie.Need-first-class-requires
 first-class-requires c κs =
@@ -29,20 +30,36 @@ same-length-2 c = marksIf-same _ _ _ (c .before .before .before .before .first-f
 
 returns : tie.Need-returns
 returns c =
-    let a = c .before .before .before .before .before .before .before .before .before .before .before .before .before .before .before .before .before .before .before .before .before .args in
+    let at-first-find = c .before .before .before .before in
+    let s = at-first-find .before .before .before .before .before .before .before .before .before .before .before .before .before .before .before .before .before in
+    let a = s .args in
     let n = length (a .class-ids .now) in (
-      either-first (badClass (schemaColumns (a .dumped .now) (a .class-kinds .now) (a .slot-starts .now) (a .slot-ends .now) (a .static-starts .now) (a .static-ends .now) (a .slot-offsets .now) (a .slot-labels .now) (a .slot-weak .now) (a .static-names .now) (a .static-types .now) (a .names))) (badFind (findColumns (a .ids .now) (a .kinds .now) (a .class-ids .now) (a .dumped .now))) (badDumped (dumpedColumns (a .ids .now) (a .kinds .now) (a .class-ids .now) (a .dumped .now) (a .class-kinds .now) (a .slot-starts .now) (a .slot-ends .now) (a .static-starts .now) (a .static-ends .now) (a .slot-offsets .now) (a .slot-labels .now) (a .slot-weak .now) (a .static-names .now) (a .static-types .now) (a .names))) n
-          (dumped-both (a .ids .now) (a .kinds .now) (a .class-ids .now) (a .dumped .now) (a .class-kinds .now) (a .slot-starts .now) (a .slot-ends .now) (a .static-starts .now) (a .static-ends .now) (a .slot-offsets .now) (a .slot-labels .now) (a .slot-weak .now) (a .static-names .now) (a .static-types .now) (a .names)) (rw (← c .before .before .before .before .before .before .before .before .before .before .before .before .before .before .before .before .before .before .before .before .before .pre .1 .1 .0) (c .before .first-class .ensures)) (c .before .before .before .before .first-find .ensures .0) (c .if1 .taken),
-      c .before .before .before .before .first-find .ensures .1 ∙ rw (c .before .before .before .before .first-find .ensures .0),
+      either-first (badClass (schemaColumns (a .dumped .now) (a .class-kinds .now) (a .slot-starts .now) (a .slot-ends .now) (a .static-starts .now) (a .static-ends .now)
+          (a .slot-offsets .now) (a .slot-labels .now) (a .slot-weak .now) (a .static-names .now) (a .static-types .now) (a .names)))
+          (badFind (findColumns (a .ids .now) (a .kinds .now) (a .class-ids .now) (a .dumped .now)))
+          (badDumped (dumpedColumns (a .ids .now) (a .kinds .now) (a .class-ids .now) (a .dumped .now) (a .class-kinds .now) (a .slot-starts .now) (a .slot-ends .now)
+          (a .static-starts .now) (a .static-ends .now) (a .slot-offsets .now) (a .slot-labels .now) (a .slot-weak .now) (a .static-names .now) (a .static-types .now) (a .names))) n
+          (dumped-both (a .ids .now) (a .kinds .now) (a .class-ids .now) (a .dumped .now) (a .class-kinds .now) (a .slot-starts .now) (a .slot-ends .now) (a .static-starts .now)
+          (a .static-ends .now) (a .slot-offsets .now) (a .slot-labels .now) (a .slot-weak .now) (a .static-names .now) (a .static-types .now) (a .names))
+          (rw (← s .pre .1 .1 .0) (c .before .first-class .ensures)) (at-first-find .first-find .ensures .0) (c .if1 .taken),
+      at-first-find .first-find .ensures .1 ∙ rw (at-first-find .first-find .ensures .0),
     )
 
 returns-2 : tie.Need-returns-2
 returns-2 c =
-    let a = c .before .before .before .before .before .before .before .before .before .before .before .before .before .before .before .before .before .before .before .before .before .args in
+    let at-first-find = c .before .before .before .before in
+    let s = at-first-find .before .before .before .before .before .before .before .before .before .before .before .before .before .before .before .before .before in
+    let a = s .args in
     let n = length (a .class-ids .now) in (
-      either-second (badClass (schemaColumns (a .dumped .now) (a .class-kinds .now) (a .slot-starts .now) (a .slot-ends .now) (a .static-starts .now) (a .static-ends .now) (a .slot-offsets .now) (a .slot-labels .now) (a .slot-weak .now) (a .static-names .now) (a .static-types .now) (a .names))) (badFind (findColumns (a .ids .now) (a .kinds .now) (a .class-ids .now) (a .dumped .now))) (badDumped (dumpedColumns (a .ids .now) (a .kinds .now) (a .class-ids .now) (a .dumped .now) (a .class-kinds .now) (a .slot-starts .now) (a .slot-ends .now) (a .static-starts .now) (a .static-ends .now) (a .slot-offsets .now) (a .slot-labels .now) (a .slot-weak .now) (a .static-names .now) (a .static-types .now) (a .names))) n
-          (dumped-both (a .ids .now) (a .kinds .now) (a .class-ids .now) (a .dumped .now) (a .class-kinds .now) (a .slot-starts .now) (a .slot-ends .now) (a .static-starts .now) (a .static-ends .now) (a .slot-offsets .now) (a .slot-labels .now) (a .slot-weak .now) (a .static-names .now) (a .static-types .now) (a .names)) (rw (← c .before .before .before .before .before .before .before .before .before .before .before .before .before .before .before .before .before .before .before .before .before .pre .1 .1 .0) (c .before .first-class .ensures)) (c .before .before .before .before .first-find .ensures .0) (c .if1 .left),
-      c .before .before .before .before .first-find .ensures .1 ∙ rw (c .before .before .before .before .first-find .ensures .0),
+      either-second (badClass (schemaColumns (a .dumped .now) (a .class-kinds .now) (a .slot-starts .now) (a .slot-ends .now) (a .static-starts .now) (a .static-ends .now)
+          (a .slot-offsets .now) (a .slot-labels .now) (a .slot-weak .now) (a .static-names .now) (a .static-types .now) (a .names)))
+          (badFind (findColumns (a .ids .now) (a .kinds .now) (a .class-ids .now) (a .dumped .now)))
+          (badDumped (dumpedColumns (a .ids .now) (a .kinds .now) (a .class-ids .now) (a .dumped .now) (a .class-kinds .now) (a .slot-starts .now) (a .slot-ends .now)
+          (a .static-starts .now) (a .static-ends .now) (a .slot-offsets .now) (a .slot-labels .now) (a .slot-weak .now) (a .static-names .now) (a .static-types .now) (a .names))) n
+          (dumped-both (a .ids .now) (a .kinds .now) (a .class-ids .now) (a .dumped .now) (a .class-kinds .now) (a .slot-starts .now) (a .slot-ends .now) (a .static-starts .now)
+          (a .static-ends .now) (a .slot-offsets .now) (a .slot-labels .now) (a .slot-weak .now) (a .static-names .now) (a .static-types .now) (a .names))
+          (rw (← s .pre .1 .1 .0) (c .before .first-class .ensures)) (at-first-find .first-find .ensures .0) (c .if1 .left),
+      at-first-find .first-find .ensures .1 ∙ rw (at-first-find .first-find .ensures .0),
     )
 
 pub first-dumped-spec : {M : Type 1} → statement M

@@ -30,9 +30,14 @@ returns c =
 
 loop-again : tie.Need-loop-again Inv-loop μ-loop
 loop-again c =
-    let a = c .before .before .before .before .before .before .before .args in
-    let h = c .before .before .before .before .before in
-    (searching-more _ _ (h .loop .inv .0) (omega arith) (label-at (a .names) (a .labels .now) (h .loop .k) ∙ ap (λ (n : ℕ). labelFault (a .names) n (a .labels .now ! h .loop .k)) (sym (h .loop .inv .1)) ∙ sym (c .before .before .label-fault .ensures) ∙ c .before .if1 .left), c .after .ensures ∙ ap (λ (n : ℕ). after n (a .labels .now ! h .loop .k)) (h .loop .inv .1) ∙ expected-more (a .labels .now) (h .loop .k))
+    let p = c .before .before .before .before .before in
+    let s = p .before .before in
+    let a = s .args in
+    let h = p in (
+      searching-more _ _ (h .loop .inv .0) (omega arith) (label-at (a .names) (a .labels .now) (h .loop .k) ∙ ap
+          (λ (n : ℕ). labelFault (a .names) n (a .labels .now ! h .loop .k)) (sym (h .loop .inv .1)) ∙ sym (c .before .before .label-fault .ensures) ∙ c .before .if1 .left),
+      c .after .ensures ∙ ap (λ (n : ℕ). after n (a .labels .now ! h .loop .k)) (h .loop .inv .1) ∙ expected-more (a .labels .now) (h .loop .k),
+    )
 
 returns-2 : tie.Need-returns-2 Inv-loop μ-loop
 returns-2 c = searching-end _ _ (c .before .loop .inv .0) (omega arith)

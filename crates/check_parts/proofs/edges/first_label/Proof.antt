@@ -42,10 +42,20 @@ add-t19 : tie.Need-add-t19 Inv-loop μ-loop
 add-t19 c = omega (arith, within (c .before .before .before .before .before))
 
 returns : tie.Need-returns Inv-loop μ-loop
-returns c = let a = c .before .before .before .before .before .before .before .before .before .args in labelled-hit (a .names) (a .offsets .now) (a .labels .now) (c .before .before .before .before .before .before .before .before .before .pre) (c .before .before .before .before .before .before .loop .inv .1) (omega arith) (c .before .first-in-object .ensures) (c .if1 .taken)
+returns c =
+    let l = c .before .before .before .before .before .before in
+    let s = l .before .before .before in
+    let a = s .args in labelled-hit (a .names) (a .offsets .now) (a .labels .now) (s .pre) (l .loop .inv .1) (omega arith) (c .before .first-in-object .ensures) (c .if1 .taken)
 
 loop-again : tie.Need-loop-again Inv-loop μ-loop
-loop-again c = let a = c .before .before .before .before .before .before .before .before .before .args in (search needs, labelled-more (a .names) (a .offsets .now) (a .labels .now) (c .before .before .before .before .before .before .before .before .before .pre) (c .before .before .before .before .before .before .loop .inv .1) (omega arith) (c .before .first-in-object .ensures) (c .if1 .left))
+loop-again c =
+    let l = c .before .before .before .before .before .before in
+    let s = l .before .before .before in
+    let a = s .args in (
+      search needs,
+      labelled-more (a .names) (a .offsets .now) (a .labels .now) (s .pre) (l .loop .inv .1) (omega arith) (c .before .first-in-object .ensures)
+          (c .if1 .left),
+    )
 
 returns-2 : tie.Need-returns-2 Inv-loop μ-loop
 returns-2 c = let a = c .before .before .before .before .args in labelled-all (a .names) (a .offsets .now) (a .labels .now) (c .before .loop .inv .1) (omega arith)

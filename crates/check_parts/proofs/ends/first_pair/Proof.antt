@@ -24,15 +24,26 @@ loop-holds c = (searching-start _ _, refl, refl)
 
 returns : tie.Need-returns Inv-loop μ-loop
 returns c =
-    let a = c .before .before .before .before .before .before .before .before .args in
-    let h = c .before .before .before .before .before in
-    searching-hit _ _ (h .loop .inv .0) (omega arith) (pair-at (a .objects) (a .weak-from .now) (a .weak-to .now) (h .loop .i) ∙ ap₂ (λ (p q : ℕ). pairFault (a .objects) p q (a .weak-from .now ! h .loop .i) (a .weak-to .now ! h .loop .i)) (sym (h .loop .inv .1)) (sym (h .loop .inv .2)) ∙ sym (c .before .pair-fault .ensures) ∙ c .if1 .taken)
+    let p2 = c .before .before .before .before .before in
+    let s = p2 .before .before .before in
+    let a = s .args in
+    let h = p2 in
+    searching-hit _ _ (h .loop .inv .0) (omega arith) (pair-at (a .objects) (a .weak-from .now) (a .weak-to .now) (h .loop .i) ∙ ap₂
+    (λ (p q : ℕ). pairFault (a .objects) p q (a .weak-from .now ! h .loop .i) (a .weak-to .now ! h .loop .i)) (sym (h .loop .inv .1)) (sym (h .loop .inv .2)) ∙ sym
+    (c .before .pair-fault .ensures) ∙ c .if1 .taken)
 
 loop-again : tie.Need-loop-again Inv-loop μ-loop
 loop-again c =
-    let a = c .before .before .before .before .before .before .before .before .args in
-    let h = c .before .before .before .before .before in
-    (searching-more _ _ (h .loop .inv .0) (omega arith) (pair-at (a .objects) (a .weak-from .now) (a .weak-to .now) (h .loop .i) ∙ ap₂ (λ (p q : ℕ). pairFault (a .objects) p q (a .weak-from .now ! h .loop .i) (a .weak-to .now ! h .loop .i)) (sym (h .loop .inv .1)) (sym (h .loop .inv .2)) ∙ sym (c .before .pair-fault .ensures) ∙ c .if1 .left), prior-more (a .weak-from .now) (h .loop .i), prior-more (a .weak-to .now) (h .loop .i))
+    let p2 = c .before .before .before .before .before in
+    let s = p2 .before .before .before in
+    let a = s .args in
+    let h = p2 in (
+      searching-more _ _ (h .loop .inv .0) (omega arith) (pair-at (a .objects) (a .weak-from .now) (a .weak-to .now) (h .loop .i) ∙ ap₂
+          (λ (p q : ℕ). pairFault (a .objects) p q (a .weak-from .now ! h .loop .i) (a .weak-to .now ! h .loop .i)) (sym (h .loop .inv .1)) (sym (h .loop .inv .2)) ∙ sym
+          (c .before .pair-fault .ensures) ∙ c .if1 .left),
+      prior-more (a .weak-from .now) (h .loop .i),
+      prior-more (a .weak-to .now) (h .loop .i),
+    )
 
 returns-2 : tie.Need-returns-2 Inv-loop μ-loop
 returns-2 c = searching-end _ _ (c .before .loop .inv .0) (omega arith)

@@ -6,7 +6,7 @@ use lib.ListN.{length, take}
 use Rattle.rules.specs.Edges.{Parts}
 use Rattle.rules.specs.Verdict.{firstOf}
 use Rattle.rules.specs.Parts.{badTargets}
-use Rattle.check_tables.specs.Copying.{faultSays}
+use Rattle.check_ids.specs.Copying.{faultSays}
 use Rattle.check_parts.specs.Checks.{handed, endFaults}
 use Rattle.check_parts.proofs.Chain.{edges-label, edges-target, edges-behind}
 use borrow.Author.Needs.{needs}
@@ -20,18 +20,35 @@ abbrev accepted : tie.Start → List ℕ
 accepted s = 0 ∷ length (s .args .labels .now) ∷ []
 
 returns : tie.Need-returns
-returns c = c .refused .ensures ∙ edges-label (c .before .before .before .before .before .before .before .before .before .before .before .before .args .names) (partsOf (c .before .before .before .before .before .before .before .before .before .before .before .before)) (accepted (c .before .before .before .before .before .before .before .before .before .before .before .before)) (ap faultSays (sym (c .before .before .p .given .1)) ∙ c .before .before .before .before .first-label .ensures)
+returns c =
+    let at-first-label = c .before .before .before .before in
+    let s = at-first-label .before .before .before .before .before .before .before .before in
+    c .refused .ensures ∙ edges-label (s .args .names) (partsOf s) (accepted s) (ap faultSays (sym (c .before .before .p .given .1)) ∙ at-first-label .first-label .ensures)
 
 returns-2 : tie.Need-returns-2
 returns-2 c =
+    let at-first-target = c .before .before .before .before in
+    let at-enum-told = at-first-target .before in
+    let at-first-label = at-enum-told .before .before in
+    let at-object-count = at-first-label .before in
+    let s = at-object-count .before .before .before .before .before .before .before in
     c .refused2 .ensures
-    ∙ edges-target (c .before .before .before .before .before .before .before .before .before .before .before .before .before .before .before .args .names) (partsOf (c .before .before .before .before .before .before .before .before .before .before .before .before .before .before .before)) (accepted (c .before .before .before .before .before .before .before .before .before .before .before .before .before .before .before)) (ap faultSays (sym (c .before .before .before .before .before .enum-told .given .1)) ∙ c .before .before .before .before .before .before .before .first-label .ensures) (ap faultSays (sym (c .before .before .p2 .given .1)) ∙ c .before .before .before .before .first-target .ensures ∙ ap (λ (m : ℕ). take 1 (badTargets m (c .before .before .before .before .before .before .before .before .before .before .before .before .before .before .before .args .targets .now) (length (c .before .before .before .before .before .before .before .before .before .before .before .before .before .before .before .args .labels .now)))) (c .before .before .before .before .before .before .before .before .object-count .ensures))
+    ∙ edges-target (s .args .names) (partsOf s) (accepted s) (ap faultSays (sym (at-enum-told .enum-told .given .1)) ∙ at-first-label .first-label .ensures)
+    (ap faultSays (sym (c .before .before .p2 .given .1)) ∙ at-first-target .first-target .ensures ∙ ap
+    (λ (m : ℕ). take 1 (badTargets m (s .args .targets .now) (length (s .args .labels .now)))) (at-object-count .object-count .ensures))
 
 returns-3 : tie.Need-returns-3
 returns-3 c =
-    let a = c .before .before .before .before .before .before .before .before .before .before .before .before .before .before .args in
-    c .judge-ends .ensures ∙ ap (λ (m : ℕ). firstOf (endFaults m (a .weak-from .now) (a .weak-to .now) (a .roots .now)) (accepted (c .before .before .before .before .before .before .before .before .before .before .before .before .before .before))) (c .before .before .before .before .before .before .before .object-count .ensures)
-    ∙ edges-behind (c .before .before .before .before .before .before .before .before .before .before .before .before .before .before .args .names) (partsOf (c .before .before .before .before .before .before .before .before .before .before .before .before .before .before)) (accepted (c .before .before .before .before .before .before .before .before .before .before .before .before .before .before)) (ap faultSays (sym (c .before .before .before .before .enum-told .given .1)) ∙ c .before .before .before .before .before .before .first-label .ensures) (ap faultSays (sym (c .before .enum-told2 .given .1)) ∙ c .before .before .before .first-target .ensures ∙ ap (λ (m : ℕ). take 1 (badTargets m (c .before .before .before .before .before .before .before .before .before .before .before .before .before .before .args .targets .now) (length (c .before .before .before .before .before .before .before .before .before .before .before .before .before .before .args .labels .now)))) (c .before .before .before .before .before .before .before .object-count .ensures))
+    let at-first-target = c .before .before .before in
+    let at-enum-told = at-first-target .before in
+    let at-first-label = at-enum-told .before .before in
+    let at-object-count = at-first-label .before in
+    let s = at-object-count .before .before .before .before .before .before .before in
+    let a = s .args in
+    c .judge-ends .ensures ∙ ap (λ (m : ℕ). firstOf (endFaults m (a .weak-from .now) (a .weak-to .now) (a .roots .now)) (accepted s)) (at-object-count .object-count .ensures)
+    ∙ edges-behind (s .args .names) (partsOf s) (accepted s) (ap faultSays (sym (at-enum-told .enum-told .given .1)) ∙ at-first-label .first-label .ensures)
+    (ap faultSays (sym (c .before .enum-told2 .given .1)) ∙ at-first-target .first-target .ensures ∙ ap
+    (λ (m : ℕ). take 1 (badTargets m (s .args .targets .now) (length (s .args .labels .now)))) (at-object-count .object-count .ensures))
 
 pub judge-edges-spec : {M : Type 1} → statement M
 judge-edges-spec =

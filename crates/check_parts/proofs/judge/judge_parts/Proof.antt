@@ -4,7 +4,7 @@ use mathlib.Core.List.{List, [], _∷_}
 use Prim.Native.Nat.{ℕ}
 use lib.ListN.{length}
 use Rattle.rules.specs.Edges.{Parts}
-use Rattle.check_tables.specs.Copying.{faultSays}
+use Rattle.check_ids.specs.Copying.{faultSays}
 use Rattle.check_parts.specs.Checks.{handed}
 use Rattle.check_parts.proofs.Faults.{laid-out}
 use Rattle.check_parts.proofs.Chain.{parts-offset, parts-edges}
@@ -19,13 +19,22 @@ abbrev accepted : tie.Start → List ℕ
 accepted s = 0 ∷ length (s .args .labels .now) ∷ []
 
 judge-edges-requires : tie.Need-judge-edges-requires
-judge-edges-requires c κs = (laid-out (c .before .before .before .before .before .before .before .before .before .args .offsets .now) (length (c .before .before .before .before .before .before .before .before .before .args .labels .now)) (ap faultSays (sym (c .enum-told .given .1)) ∙ c .before .before .first-offset .ensures), c .before .before .before .before .before .before .before .before .before .pre)
+judge-edges-requires c κs =
+    let s = c .before .before .before .before .before .before .before .before .before in
+    (laid-out (s .args .offsets .now) (length (s .args .labels .now)) (ap faultSays (sym (c .enum-told .given .1)) ∙ c .before .before .first-offset .ensures), s .pre)
 
 returns : tie.Need-returns
-returns c = c .refused .ensures ∙ parts-offset (c .before .before .before .before .before .before .before .before .before .before .before .args .names) (partsOf (c .before .before .before .before .before .before .before .before .before .before .before)) (accepted (c .before .before .before .before .before .before .before .before .before .before .before)) (ap faultSays (sym (c .before .before .p .given .1)) ∙ c .before .before .before .before .first-offset .ensures)
+returns c =
+    let at-first-offset = c .before .before .before .before in
+    let s = at-first-offset .before .before .before .before .before .before .before in
+    c .refused .ensures ∙ parts-offset (s .args .names) (partsOf s) (accepted s) (ap faultSays (sym (c .before .before .p .given .1)) ∙ at-first-offset .first-offset .ensures)
 
 returns-2 : tie.Need-returns-2
-returns-2 c = c .judge-edges .ensures ∙ parts-edges (c .before .before .before .before .before .before .before .before .before .before .args .names) (partsOf (c .before .before .before .before .before .before .before .before .before .before)) (accepted (c .before .before .before .before .before .before .before .before .before .before)) (ap faultSays (sym (c .before .enum-told .given .1)) ∙ c .before .before .before .first-offset .ensures)
+returns-2 c =
+    let at-first-offset = c .before .before .before in
+    let s = at-first-offset .before .before .before .before .before .before .before in
+    c .judge-edges .ensures ∙ parts-edges (s .args .names) (partsOf s) (accepted s)
+    (ap faultSays (sym (c .before .enum-told .given .1)) ∙ at-first-offset .first-offset .ensures)
 
 pub judge-parts-spec : {M : Type 1} → statement M
 judge-parts-spec =

@@ -33,17 +33,34 @@ object-places-requires : tie.Need-object-places-requires Inv-loop μ-loop
 object-places-requires c κs = c .before .before .before .before .before .before .before .before .before .before .before .before .before .before .before .pre .stands (c .before .before .before .before .before .loop .o) (c .before .before .before .before .loop-test .taken)
 
 add-sum : tie.Need-add-sum Inv-loop μ-loop
-add-sum c = omega (arith, c .before .before .before .before .before .before .loop .inv .2, c .before .before .before .before .before .loop-test .taken, c .before .before .before .before .before .before .before .before .before .before .before .before .before .before .before .before .pre .few, c .object-places .ensures .1)
+add-sum c =
+    let i = c .before .before .before .before .before in
+    let l = i .before in
+    let s = l .before .before .before .before .before .before .before .before .before .before in
+    omega (arith, l .loop .inv .2, i .loop-test .taken, s .pre .few, c .object-places .ensures .1)
 
 loop-again : tie.Need-loop-again Inv-loop μ-loop
 loop-again c =
-    let a = c .before .before .before .before .before .before .before .before .before .before .before .before .before .before .before .before .args in
-    (omega (arith, c .before .before .before .before .before .loop-test .taken), total-more (heldAt (a .kinds .now) (a .classes .now) (a .lengths .now) (a .class-kinds .now) (a .slot-starts .now) (a .slot-ends .now) (a .slot-weak .now) (a .codes .now) (a .starts .now) (a .policy)) (c .before .before .before .before .before .before .loop .o) (c .before .before .before .before .before .before .loop .inv .1) (c .object-places .ensures .0), omega (arith, c .before .before .before .before .before .before .loop .inv .2, c .object-places .ensures .1))
+    let i = c .before .before .before .before .before in
+    let l = i .before in
+    let s = l .before .before .before .before .before .before .before .before .before .before in
+    let a = s .args in (
+      omega (arith, i .loop-test .taken),
+      total-more (heldAt (a .kinds .now) (a .classes .now) (a .lengths .now) (a .class-kinds .now) (a .slot-starts .now) (a .slot-ends .now)
+          (a .slot-weak .now) (a .codes .now) (a .starts .now) (a .policy)) (l .loop .o) (l .loop .inv .1) (c .object-places .ensures .0),
+      omega
+          (arith, l .loop .inv .2, c .object-places .ensures .1),
+    )
 
 returns : tie.Need-returns Inv-loop μ-loop
 returns c =
-    let a = c .before .before .before .before .before .before .before .before .before .before .before .args in
-    (total-end (heldAt (a .kinds .now) (a .classes .now) (a .lengths .now) (a .class-kinds .now) (a .slot-starts .now) (a .slot-ends .now) (a .slot-weak .now) (a .codes .now) (a .starts .now) (a .policy)) (c .before .loop .inv .1) (c .before .loop .inv .0) (c .loop-test .left), omega (arith, c .before .loop .inv .2, c .before .loop .inv .0, c .before .before .before .before .before .before .before .before .before .before .before .pre .few))
+    let s = c .before .before .before .before .before .before .before .before .before .before .before in
+    let a = s .args in (
+      total-end (heldAt (a .kinds .now) (a .classes .now) (a .lengths .now) (a .class-kinds .now) (a .slot-starts .now) (a .slot-ends .now) (a .slot-weak .now) (a .codes .now)
+          (a .starts .now) (a .policy)) (c .before .loop .inv .1) (c .before .loop .inv .0) (c .loop-test .left),
+      omega
+          (arith, c .before .loop .inv .2, c .before .loop .inv .0, s .pre .few),
+    )
 
 pub count-objects-spec : {M : Type 1} → statement M
 count-objects-spec =

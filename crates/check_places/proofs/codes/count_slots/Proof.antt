@@ -17,7 +17,10 @@ abbrev μ-loop : tie.MeasureT-loop
 μ-loop codes slot-weak kept start first n sum₀ k₀ sum k = n - k
 
 small : (c : tie.After-one-slot Inv-loop μ-loop) → c .one-slot .result ≤ 1
-small c = let a = c .before .before .before .before .before .before .before .args in omega (arith, c .one-slot .ensures, one-few (slotHeld (a .kept) (a .slot-weak .now ! (a .first + c .before .before .before .before .loop .k)) (a .codes .now ! (a .start + c .before .before .before .before .loop .k))))
+small c =
+    let l = c .before .before .before .before in
+    let s = l .before .before .before in
+    let a = s .args in omega (arith, c .one-slot .ensures, one-few (slotHeld (a .kept) (a .slot-weak .now ! (a .first + l .loop .k)) (a .codes .now ! (a .start + l .loop .k))))
 
 loop-holds : tie.Need-loop-holds Inv-loop μ-loop
 loop-holds c = (zero-le, refl, zero-le)
@@ -27,8 +30,15 @@ add-sum c = omega (arith, small c, c .before .before .before .before .loop .inv 
 
 loop-again : tie.Need-loop-again Inv-loop μ-loop
 loop-again c =
-    let a = c .before .before .before .before .before .before .before .args in
-    (omega (arith, c .before .before .before .loop-test .taken), total-more (slotAt (a .codes .now) (a .slot-weak .now) (a .kept) (a .start) (a .first)) (c .before .before .before .before .loop .k) (c .before .before .before .before .loop .inv .1) (c .one-slot .ensures), omega (arith, small c, c .before .before .before .before .loop .inv .2))
+    let i = c .before .before .before in
+    let l = i .before in
+    let s = l .before .before .before in
+    let a = s .args in (
+      omega (arith, i .loop-test .taken),
+      total-more (slotAt (a .codes .now) (a .slot-weak .now) (a .kept) (a .start) (a .first)) (l .loop .k) (l .loop .inv .1)
+          (c .one-slot .ensures),
+      omega (arith, small c, l .loop .inv .2),
+    )
 
 returns : tie.Need-returns Inv-loop μ-loop
 returns c =

@@ -15,9 +15,13 @@ instance c = let array : c .before .before .before .before .before .before .befo
 inside : (c : tie.After-index3) → c .index3 .result < length (c .before .before .before .before .before .before .before .before .before .args .slot-starts .now)
 inside c = omega (arith, c .before .before .before .before .before .before .before .before .before .pre .class-in (instance (c .before)), c .index3 .ensures)
 
-range : (c : tie.After-keeps) → let a = c .before .before .before .before .before .before .before .before .before .before .before .before .before .before .before .args in (c .before .before .before .before .index4 .result ≤ c .before .before .index5 .result) × (c .before .before .index5 .result ≤ length (a .slot-weak .now))
+abbrev from-keeps : tie.After-keeps → tie.Start
+from-keeps c =
+    c .before .before .before .before .before .before .before .before .before .before .before .before .before .before .before
+
+range : (c : tie.After-keeps) → let a = from-keeps c .args in (c .before .before .before .before .index4 .result ≤ c .before .before .index5 .result) × (c .before .before .index5 .result ≤ length (a .slot-weak .now))
 range c =
-    let r = c .before .before .before .before .before .before .before .before .before .before .before .before .before .before .before .pre .ranges (c .before .before .before .before .before .before .index3 .result) (inside (c .before .before .before .before .before .before)) in
+    let r = from-keeps c .pre .ranges (c .before .before .before .before .before .before .index3 .result) (inside (c .before .before .before .before .before .before)) in
     (omega (arith, r .0, c .before .before .before .before .index4 .ensures, c .before .before .index5 .ensures), omega (arith, r .1, c .before .before .index5 .ensures))
 
 count-codes-requires : tie.Need-count-codes-requires
@@ -25,8 +29,14 @@ count-codes-requires c κs = omega (arith, array-span (c .before .before .before
 
 returns : tie.Need-returns
 returns c =
-    let a = c .before .before .before .before .before .before .before .before .before .args in
-    (places-array (a .class-kinds .now) (a .slot-starts .now) (a .slot-ends .now) (a .slot-weak .now) (a .codes .now) (a .policy) (a .kind) (a .class) (a .len) (a .start) (c .before .before .if1 .taken) (c .before .before .before .index .ensures) (c .before .index2 .ensures) (c .count-codes .ensures .0), omega (arith, c .count-codes .ensures .1, c .before .index2 .ensures))
+    let at-index = c .before .before .before in
+    let s = at-index .before .before .before .before .before .before in
+    let a = s .args in (
+      places-array (a .class-kinds .now) (a .slot-starts .now) (a .slot-ends .now) (a .slot-weak .now) (a .codes .now) (a .policy) (a .kind) (a .class) (a .len) (a .start)
+          (c .before .before .if1 .taken) (at-index .index .ensures) (c .before .index2 .ensures) (c .count-codes .ensures .0),
+      omega
+          (arith, c .count-codes .ensures .1, c .before .index2 .ensures),
+    )
 
 returns-2 : tie.Need-returns-2
 returns-2 c =
@@ -46,12 +56,45 @@ sub-count-slots : tie.Need-sub-count-slots
 sub-count-slots c = range c .0
 
 count-slots-requires : tie.Need-count-slots-requires
-count-slots-requires c κs = (omega (arith, instance-span (c .before .before .before .before .before .before .before .before .before .before .before .before .before .before .before .pre) (instance (c .before .before .before .before .before .before .before)) (c .before .before .before .before .before .before .index3 .ensures), range c .0, c .before .before .before .before .before .before .before .before .before .index .ensures, c .before .before .before .before .index4 .ensures, c .before .before .index5 .ensures), omega (arith, range c .0, range c .1))
+count-slots-requires c κs =
+    let at-index4 = c .before .before .before .before in
+    let at-index3 = at-index4 .before .before in
+    let p = at-index3 .before in
+    let at-index = p .before .before in
+    let s = at-index .before .before .before .before .before .before in (
+      omega (
+        arith,
+        instance-span (s .pre) (instance p) (at-index3 .index3 .ensures),
+        range c .0,
+        at-index .index .ensures,
+        at-index4 .index4 .ensures,
+        c .before
+            .before .index5 .ensures,
+      ),
+      omega (arith, range c .0, range c .1),
+    )
 
 returns-3 : tie.Need-returns-3
 returns-3 c =
-    let a = c .before .before .before .before .before .before .before .before .before .before .before .before .before .before .before .before .args in
-    (places-instance (a .class-kinds .now) (a .slot-starts .now) (a .slot-ends .now) (a .slot-weak .now) (a .codes .now) (a .policy) (a .kind) (a .class) (a .len) (a .start) (instance (c .before .before .before .before .before .before .before .before)) (c .before .before .before .before .before .before .before .index3 .ensures) (c .before .before .before .before .before .before .before .before .before .before .index .ensures) (c .before .before .before .before .before .index4 .ensures) (c .before .before .before .index5 .ensures) (c .before .keeps .ensures) (c .count-slots .ensures .0), omega (arith, c .count-slots .ensures .1, c .before .before .before .index5 .ensures, c .before .before .before .before .shared-slice-known7 .given (c .before .before .before .before .before .before .before .index3 .result)))
+    let at-index5 = c .before .before .before in
+    let at-shared-slice-known7 = at-index5 .before in
+    let at-index4 = at-shared-slice-known7 .before in
+    let at-index3 = at-index4 .before .before in
+    let p = at-index3 .before in
+    let at-index = p .before .before in
+    let s = at-index .before .before .before .before .before .before in
+    let a = s .args in (
+      places-instance (a .class-kinds .now) (a .slot-starts .now) (a .slot-ends .now) (a .slot-weak .now) (a .codes .now) (a .policy) (a .kind) (a .class) (a .len) (a .start)
+          (instance p) (at-index3 .index3 .ensures) (at-index .index .ensures) (at-index4 .index4 .ensures) (at-index5 .index5 .ensures) (c .before .keeps .ensures)
+          (c .count-slots .ensures .0),
+      omega (
+        arith,
+        c .count-slots .ensures .1,
+        at-index5 .index5 .ensures,
+        at-shared-slice-known7 .shared-slice-known7 .given
+            (at-index3 .index3 .result),
+      ),
+    )
 
 pub object-places-spec : {M : Type 1} → statement M
 object-places-spec =

@@ -18,8 +18,21 @@ Inv-loop kinds classes lengths slot-starts slot-ends codes starts end₀ o₀ en
 abbrev μ-loop : tie.MeasureT-loop
 μ-loop kinds classes lengths slot-starts slot-ends codes starts end₀ o₀ end o = length kinds - o
 
-inside : (c : tie.After-index2 Inv-loop μ-loop) → c .before .before .index .result + c .index2 .result ≤ length (c .before .before .before .before .before .before .before .before .before .before .before .before .before .before .before .before .before .before .args .codes .now)
-inside c = omega (arith, part-span (c .before .before .before .before .before .before .before .before .before .before .before .before .before .before .before .before .before .before .pre) (c .before .before .before .before .before .before .before .before .before .before .loop .o) (omega arith) (c .before .before .before .before .before .part-of .ensures) (c .before .before .before .before .if1 .left), c .before .before .index .ensures, c .index2 .ensures)
+abbrev from-index2 : tie.After-index2 Inv-loop μ-loop → tie.Start Inv-loop μ-loop
+from-index2 c =
+    c .before .before .before .before .before .before .before .before .before .before .before .before .before .before .before .before .before .before
+
+inside : (c : tie.After-index2 Inv-loop μ-loop) → c .before .before .index .result + c .index2 .result ≤ length (from-index2 c .args .codes .now)
+inside c =
+    let at-if1 = c .before .before .before .before in
+    let at-part-of = at-if1 .before in
+    let l = at-part-of .before .before .before .before .before in
+    omega (
+      arith,
+      part-span (from-index2 c .pre) (l .loop .o) (omega arith) (at-part-of .part-of .ensures) (at-if1 .if1 .left),
+      c .before .before .index .ensures,
+      c .index2 .ensures,
+    )
 
 loop-holds : tie.Need-loop-holds Inv-loop μ-loop
 loop-holds c = (zero-le, zero-le, zero-le)
@@ -35,9 +48,15 @@ part-of-requires c κs = c .before .before .before .before .before .before .befo
 
 loop-again : tie.Need-loop-again Inv-loop μ-loop
 loop-again c =
-    let a = c .before .before .before .before .before .before .before .before .before .before .before .before .before .before .args in
-    let w = c .before .before .before .before .before .before .loop .inv in
-    (search needs, w .1, part-empty (a .kinds .now) (a .classes .now) (a .lengths .now) (a .slot-starts .now) (a .slot-ends .now) (a .codes .now) (a .starts .now) (c .before .before .before .before .before .before .loop .o) (c .before .before .before .before .before .before .loop .end) (w .2) (c .before .part-of .ensures) (c .if1 .taken))
+    let l = c .before .before .before .before .before .before in
+    let s = l .before .before .before .before .before .before .before .before in
+    let a = s .args in
+    let w = l .loop .inv in (
+      search needs,
+      w .1,
+      part-empty (a .kinds .now) (a .classes .now) (a .lengths .now) (a .slot-starts .now) (a .slot-ends .now) (a .codes .now) (a .starts .now) (l .loop .o)
+          (l .loop .end) (w .2) (c .before .part-of .ensures) (c .if1 .taken),
+    )
 
 shared-slice-read-index : tie.Need-shared-slice-read-index Inv-loop μ-loop
 shared-slice-read-index c = omega (arith, c .before .before .before .before .before .before .before .before .before .before .before .before .before .before .before .pre .starts-long)
@@ -50,9 +69,16 @@ add-end c = omega (arith, inside c)
 
 loop-again-2 : tie.Need-loop-again-2 Inv-loop μ-loop
 loop-again-2 c =
-    let a = c .before .before .before .before .before .before .before .before .before .before .before .before .before .before .before .before .before .before .args in
-    let w = c .before .before .before .before .before .before .before .before .before .before .loop .inv in
-    (search needs, inside c, part-behind (a .kinds .now) (a .classes .now) (a .lengths .now) (a .slot-starts .now) (a .slot-ends .now) (a .codes .now) (a .starts .now) (c .before .before .before .before .before .before .before .before .before .before .loop .o) (c .before .before .before .before .before .before .before .before .before .before .loop .end) (w .2) (c .before .before .before .before .before .part-of .ensures) (c .before .before .index .ensures) (c .index2 .ensures) (omega arith))
+    let at-part-of = c .before .before .before .before .before in
+    let l = at-part-of .before .before .before .before .before in
+    let s = l .before .before .before .before .before .before .before .before in
+    let a = s .args in
+    let w = l .loop .inv in (
+      search needs,
+      inside c,
+      part-behind (a .kinds .now) (a .classes .now) (a .lengths .now) (a .slot-starts .now) (a .slot-ends .now) (a .codes .now) (a .starts .now) (l .loop .o)
+          (l .loop .end) (w .2) (at-part-of .part-of .ensures) (c .before .before .index .ensures) (c .index2 .ensures) (omega arith),
+    )
 
 returns-2 : tie.Need-returns-2 Inv-loop μ-loop
 returns-2 c =

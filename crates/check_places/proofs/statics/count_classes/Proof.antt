@@ -28,13 +28,24 @@ add-sum c = omega (arith, c .before .before .loop .inv .2, c .before .loop-test 
 
 loop-again : tie.Need-loop-again Inv-loop μ-loop
 loop-again c =
-    let a = c .before .before .before .before .before .before .before .before .before .before .before .args in
-    (omega (arith, c .before .loop-test .taken), total-more (classPlaces (a .every) (a .ids .now) (a .class-ids .now) (a .loaders .now) (a .dumped .now) (a .static-starts .now) (a .static-ends .now) (a .static-types .now) (a .static-values .now)) (c .before .before .loop .class) (c .before .before .loop .inv .1) (c .class-places .ensures .0), omega (arith, c .before .before .loop .inv .2, c .class-places .ensures .1))
+    let l = c .before .before in
+    let s = l .before .before .before .before .before .before .before .before .before in
+    let a = s .args in (
+      omega (arith, c .before .loop-test .taken),
+      total-more (classPlaces (a .every) (a .ids .now) (a .class-ids .now) (a .loaders .now) (a .dumped .now) (a .static-starts .now)
+          (a .static-ends .now) (a .static-types .now) (a .static-values .now)) (l .loop .class) (l .loop .inv .1) (c .class-places .ensures .0),
+      omega
+          (arith, l .loop .inv .2, c .class-places .ensures .1),
+    )
 
 returns : tie.Need-returns Inv-loop μ-loop
 returns c =
-    let a = c .before .before .before .before .before .before .before .before .before .before .args in
-    (total-end (classPlaces (a .every) (a .ids .now) (a .class-ids .now) (a .loaders .now) (a .dumped .now) (a .static-starts .now) (a .static-ends .now) (a .static-types .now) (a .static-values .now)) (c .before .loop .inv .1) (c .before .loop .inv .0) (c .loop-test .left), omega (arith, c .before .loop .inv .2, c .before .loop .inv .0, c .before .before .before .before .before .before .before .before .before .before .pre .few))
+    let s = c .before .before .before .before .before .before .before .before .before .before in
+    let a = s .args in (
+      total-end (classPlaces (a .every) (a .ids .now) (a .class-ids .now) (a .loaders .now) (a .dumped .now) (a .static-starts .now) (a .static-ends .now) (a .static-types .now)
+          (a .static-values .now)) (c .before .loop .inv .1) (c .before .loop .inv .0) (c .loop-test .left),
+      omega (arith, c .before .loop .inv .2, c .before .loop .inv .0, s .pre .few),
+    )
 
 pub count-classes-spec : {M : Type 1} → statement M
 count-classes-spec =

@@ -17,8 +17,12 @@ Inv-loop ids static-types static-values from to every sum₀ i₀ sum i = (from 
 abbrev μ-loop : tie.MeasureT-loop
 μ-loop ids static-types static-values from to every sum₀ i₀ sum i = to - i
 
+abbrev from-one-static : tie.After-one-static Inv-loop μ-loop → tie.Start Inv-loop μ-loop
+from-one-static c =
+    c .before .before .before .before .before .before .before .before
+
 small : (c : tie.After-one-static Inv-loop μ-loop) → c .one-static .result ≤ 1
-small c = let a = c .before .before .before .before .before .before .before .before .args in omega (arith, c .one-static .ensures, one-few (staticHeld (a .every) (a .ids .now) (a .static-types .now ! c .before .before .before .before .loop .i) (a .static-values .now ! c .before .before .before .before .loop .i)))
+small c = let a = from-one-static c .args in omega (arith, c .one-static .ensures, one-few (staticHeld (a .every) (a .ids .now) (a .static-types .now ! c .before .before .before .before .loop .i) (a .static-values .now ! c .before .before .before .before .loop .i)))
 
 loop-holds : tie.Need-loop-holds Inv-loop μ-loop
 loop-holds c = (omega arith, omega arith, rw (sub-self (c .before .before .before .args .from)), zero-le)
@@ -37,11 +41,15 @@ add-sum c = omega (arith, small c, c .before .before .before .before .loop .inv 
 
 loop-again : tie.Need-loop-again Inv-loop μ-loop
 loop-again c =
-    let a = c .before .before .before .before .before .before .before .before .args in
-    let e : c .before .before .before .before .loop .i + 1 - a .from ≡ c .before .before .before .before .loop .i - a .from + 1 = omega (arith, c .before .before .before .before .loop .inv .0) in
-    let p : a .from + (c .before .before .before .before .loop .i - a .from) ≡ c .before .before .before .before .loop .i = omega (arith, c .before .before .before .before .loop .inv .0) in
-    let s = total-more (staticAt (a .every) (a .ids .now) (a .static-types .now) (a .static-values .now) (a .from)) (c .before .before .before .before .loop .i - a .from) (c .before .before .before .before .loop .inv .2) (c .one-static .ensures ∙ ap (λ (k : ℕ). one (staticHeld (a .every) (a .ids .now) (a .static-types .now ! k) (a .static-values .now ! k))) (sym p)) in
-    (omega (arith, c .before .before .before .before .loop .inv .0), omega (arith, c .before .before .before .loop-test .taken), rw e s, omega (arith, small c, c .before .before .before .before .loop .inv .0, c .before .before .before .before .loop .inv .3))
+    let i = c .before .before .before in
+    let l = i .before in
+    let s2 = l .before .before .before .before in
+    let a = s2 .args in
+    let e : l .loop .i + 1 - a .from ≡ l .loop .i - a .from + 1 = omega (arith, l .loop .inv .0) in
+    let p : a .from + (l .loop .i - a .from) ≡ l .loop .i = omega (arith, l .loop .inv .0) in
+    let s = total-more (staticAt (a .every) (a .ids .now) (a .static-types .now) (a .static-values .now) (a .from)) (l .loop .i - a .from) (l .loop .inv .2)
+    (c .one-static .ensures ∙ ap (λ (k : ℕ). one (staticHeld (a .every) (a .ids .now) (a .static-types .now ! k) (a .static-values .now ! k))) (sym p)) in
+    (omega (arith, l .loop .inv .0), omega (arith, i .loop-test .taken), rw e s, omega (arith, small c, l .loop .inv .0, l .loop .inv .3))
 
 returns : tie.Need-returns Inv-loop μ-loop
 returns c =

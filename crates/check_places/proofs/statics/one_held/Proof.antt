@@ -14,13 +14,21 @@ returns-2 c = held-zero _ _ _ (c .before .if1 .left) (c .if2 .taken)
 
 returns-3 : tie.Need-returns-3
 returns-3 c =
-    let a = c .before .before .before .before .before .before .args in
-    held-found (a .every) (a .ids .now) (a .id) (c .before .before .before .before .if1 .left) (c .before .before .before .if2 .left) (at-found (a .ids .now) (a .id) (sym (c .before .before .find-sorted .ensures .sought (c .before .before .before .before .before .before .pre)) ∙ c .enum-told .given .1))
+    let at-if2 = c .before .before .before in
+    let at-if1 = at-if2 .before in
+    let s = at-if1 .before .before in
+    let a = s .args in
+    held-found (a .every) (a .ids .now) (a .id) (at-if1 .if1 .left) (at-if2 .if2 .left)
+    (at-found (a .ids .now) (a .id) (sym (c .before .before .find-sorted .ensures .sought (s .pre)) ∙ c .enum-told .given .1))
 
 returns-4 : tie.Need-returns-4
 returns-4 c =
-    let a = c .before .before .before .before .before .before .args in
-    held-missing (a .every) (a .ids .now) (a .id) (c .before .before .before .before .if1 .left) (c .before .before .before .if2 .left) (missing-found (a .ids .now) (a .id) (sym (c .before .before .find-sorted .ensures .sought (c .before .before .before .before .before .before .pre)) ∙ c .enum-told2 .given .1))
+    let at-if2 = c .before .before .before in
+    let at-if1 = at-if2 .before in
+    let s = at-if1 .before .before in
+    let a = s .args in
+    held-missing (a .every) (a .ids .now) (a .id) (at-if1 .if1 .left) (at-if2 .if2 .left)
+    (missing-found (a .ids .now) (a .id) (sym (c .before .before .find-sorted .ensures .sought (s .pre)) ∙ c .enum-told2 .given .1))
 
 pub one-held-spec : {M : Type 1} → statement M
 one-held-spec =

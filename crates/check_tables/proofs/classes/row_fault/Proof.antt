@@ -35,16 +35,40 @@ returns-5 c =
 returns-6 : tie.Need-returns-6
 unfolding rowFault anyOf
 returns-6 c =
-    let slots : c .before .before .before .before .before .before .before .before .args .slot-end ≤ c .before .before .before .before .before .before .before .before .args .slots = omega arith in
-    let statics : c .before .before .before .before .before .before .before .before .args .statics < c .before .before .before .before .before .before .before .before .args .static-end = omega arith in
-    simp (le-ltb _ _ (c .before .before .before .before .before .before .before .if1 .left), le-ltb _ _ (c .before .before .before .before .before .before .if2 .left), le-ltb _ _ (c .before .before .before .before .before .if3 .left), le-ltb _ _ slots, le-ltb _ _ (c .before .before .if5 .left), lt-ltb _ _ statics)
+    let at-if3 = c .before .before .before .before .before in
+    let at-if2 = at-if3 .before in
+    let at-if1 = at-if2 .before in
+    let s = at-if1 .before in
+    let slots : s .args .slot-end ≤ s .args .slots = omega arith in
+    let statics : s .args .statics < s .args .static-end = omega arith in
+    simp (
+      le-ltb _ _ (at-if1 .if1 .left),
+      le-ltb _ _ (at-if2 .if2 .left),
+      le-ltb _ _ (at-if3 .if3 .left),
+      le-ltb _ _ slots,
+      le-ltb _ _ (c .before .before .if5 .left),
+      lt-ltb _ _
+          statics,
+    )
 
 returns-7 : tie.Need-returns-7
 unfolding rowFault anyOf
 returns-7 c =
-    let slots : c .before .before .before .before .before .before .before .before .args .slot-end ≤ c .before .before .before .before .before .before .before .before .args .slots = omega arith in
-    let statics : c .before .before .before .before .before .before .before .before .args .static-end ≤ c .before .before .before .before .before .before .before .before .args .statics = omega arith in
-    simp (le-ltb _ _ (c .before .before .before .before .before .before .before .if1 .left), le-ltb _ _ (c .before .before .before .before .before .before .if2 .left), le-ltb _ _ (c .before .before .before .before .before .if3 .left), le-ltb _ _ slots, le-ltb _ _ (c .before .before .if5 .left), le-ltb _ _ statics)
+    let at-if3 = c .before .before .before .before .before in
+    let at-if2 = at-if3 .before in
+    let at-if1 = at-if2 .before in
+    let s = at-if1 .before in
+    let slots : s .args .slot-end ≤ s .args .slots = omega arith in
+    let statics : s .args .static-end ≤ s .args .statics = omega arith in
+    simp (
+      le-ltb _ _ (at-if1 .if1 .left),
+      le-ltb _ _ (at-if2 .if2 .left),
+      le-ltb _ _ (at-if3 .if3 .left),
+      le-ltb _ _ slots,
+      le-ltb _ _ (c .before .before .if5 .left),
+      le-ltb _ _
+          statics,
+    )
 
 pub row-fault-spec : {M : Type 1} → statement M
 row-fault-spec =

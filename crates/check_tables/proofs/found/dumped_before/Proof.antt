@@ -26,8 +26,14 @@ returns c =
 
 loop-again : tie.Need-loop-again Inv-loop μ-loop
 loop-again c =
-    let a = c .before .before .before .before .before .before .before .before .args in
-    (omega (arith, c .before .before .before .before .loop-test .taken), any-more (dumpedAt (a .class-ids .now) (a .dumped .now) (a .id)) (c .before .before .before .before .before .loop .b) (c .before .before .before .before .before .loop .inv .1) (sym (c .before .is-dumped .ensures) ∙ c .if1 .left))
+    let i = c .before .before .before .before in
+    let l = i .before in
+    let s = l .before .before .before in
+    let a = s .args in (
+      omega (arith, i .loop-test .taken),
+      any-more (dumpedAt (a .class-ids .now) (a .dumped .now) (a .id)) (l .loop .b) (l .loop .inv .1)
+          (sym (c .before .is-dumped .ensures) ∙ c .if1 .left),
+    )
 
 returns-2 : tie.Need-returns-2 Inv-loop μ-loop
 returns-2 c =

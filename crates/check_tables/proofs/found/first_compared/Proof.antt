@@ -16,9 +16,13 @@ Inv-loop ids kinds class-ids dumped class₀ class = Searching (badFind (findCol
 abbrev μ-loop : tie.MeasureT-loop
 μ-loop ids kinds class-ids dumped class₀ class = length class-ids - class
 
-bad : (c : tie.After-find-fault Inv-loop μ-loop) → let a = c .before .before .before .before .before .before .before .before .before .before .args in badFind (findColumns (a .ids .now) (a .kinds .now) (a .class-ids .now) (a .dumped .now)) (c .before .before .before .before .before .loop .class) ≡ c .find-fault .result
+abbrev from-find-fault : tie.After-find-fault Inv-loop μ-loop → tie.Start Inv-loop μ-loop
+from-find-fault c =
+    c .before .before .before .before .before .before .before .before .before .before
+
+bad : (c : tie.After-find-fault Inv-loop μ-loop) → let a = from-find-fault c .args in badFind (findColumns (a .ids .now) (a .kinds .now) (a .class-ids .now) (a .dumped .now)) (c .before .before .before .before .before .loop .class) ≡ c .find-fault .result
 bad c =
-    let a = c .before .before .before .before .before .before .before .before .before .before .args in
+    let a = from-find-fault c .args in
     let x = findColumns (a .ids .now) (a .kinds .now) (a .class-ids .now) (a .dumped .now) in
     find-fault x (c .before .before .before .before .before .loop .class) ∙ sym (c .find-fault .ensures ∙ ap (λ (o : ℕ). findFault x o (c .before .before .before .before .before .loop .class)) (c .before .place-for .ensures))
 

@@ -9,7 +9,8 @@ use Rattle.check_tables.proofs.found.first_find.Tie as tie
 
 first-marked-requires : tie.Need-first-marked-requires
 first-marked-requires c κs =
-    (c .before .before .before .before .before .before .before .pre .0, (c .before .before .before .before .before .before .before .pre .1 .0, (c .before .before .before .before .before .before .before .pre .1 .1 .0, (c .before .if1 .taken, c .before .before .before .before .before .before .before .pre .1 .1 .1))))
+    let s = c .before .before .before .before .before .before .before in
+    (s .pre .0, (s .pre .1 .0, (s .pre .1 .1 .0, (c .before .if1 .taken, s .pre .1 .1 .1))))
 
 same-length : tie.Need-same-length
 same-length c = marks-same _ _ _ (c .before .before .first-marked .ensures .1)

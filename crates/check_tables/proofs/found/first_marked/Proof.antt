@@ -26,25 +26,51 @@ returns-2 c = (searching-end _ _ (c .before .loop .inv .0) (c .loop-test .left),
 
 mark-requires : tie.Need-mark-requires Inv-loop μ-loop
 mark-requires c κs =
-    (omega (arith, c .before .before .before .before .before .before .before .before .before .before .before .pre .1 .0, c .before .before .before .before .before .before .before .before .before .before .before .pre .1 .1 .1 .0, c .before .before .before .before .before .loop .inv .1 .same), omega (arith, c .before .before .before .before .loop-test .taken, c .before .before .before .before .before .before .before .before .before .before .before .good))
+    let i = c .before .before .before .before in
+    let l = i .before in
+    let s = l .before .before .before .before .before .before in
+    (omega (arith, s .pre .1 .0, s .pre .1 .1 .1 .0, l .loop .inv .1 .same), omega (arith, i .loop-test .taken, s .good))
 
 returns : tie.Need-returns Inv-loop μ-loop
 returns c =
-    let a = c .before .before .before .before .before .before .before .before .before .before .before .before .before .before .before .args in
-    (searching-hit _ _ (c .before .before .before .before .before .before .before .before .before .loop .inv .0) (c .before .before .before .before .before .before .before .before .loop-test .taken) (tells (findColumns (a .ids .now) (a .kinds .now) (a .class-ids .now) (a .dumped .now)) (length (a .working .now)) (c .before .before .before .before .before .before .before .before .before .before .before .before .before .before .before .pre .0) (c .before .before .before .before .before .before .before .before .before .before .before .before .before .before .before .pre .1 .0) (c .before .before .before .before .before .before .before .before .before .before .before .before .before .before .before .pre .1 .1 .1 .0) (c .before .before .before .before .before .before .before .before .before .loop .inv .1) (c .before .before .before .before .before .place-for .ensures) (c .before .before .before .mark .ensures .0) (c .before .before .before .mark .ensures .1) ∙ c .if1 .taken), marked-last (findColumns (a .ids .now) (a .kinds .now) (a .class-ids .now) (a .dumped .now)) (length (a .working .now)) (c .before .before .before .before .before .before .before .before .before .before .before .before .before .before .before .pre .0) (c .before .before .before .before .before .before .before .before .before .before .before .before .before .before .before .pre .1 .0) (c .before .before .before .before .before .before .before .before .before .before .before .before .before .before .before .pre .1 .1 .1 .0) (c .before .before .before .before .before .before .before .before .before .loop .inv .1) (c .before .before .before .before .before .place-for .ensures) (c .before .before .before .mark .ensures .0) (c .before .before .before .mark .ensures .1) (c .if1 .taken))
+    let at-mark = c .before .before .before in
+    let at-place-for = at-mark .before .before in
+    let i = at-place-for .before .before .before in
+    let l = i .before in
+    let s = l .before .before .before .before .before .before in
+    let a = s .args in (
+      searching-hit _ _ (l .loop .inv .0) (i .loop-test .taken) (tells (findColumns (a .ids .now) (a .kinds .now) (a .class-ids .now) (a .dumped .now)) (length (a .working .now))
+          (s .pre .0) (s .pre .1 .0) (s .pre .1 .1 .1 .0) (l .loop .inv .1) (at-place-for .place-for .ensures) (at-mark .mark .ensures .0) (at-mark .mark .ensures .1) ∙ c .if1 .taken),
+      marked-last (findColumns (a .ids .now) (a .kinds .now) (a .class-ids .now) (a .dumped .now)) (length (a .working .now)) (s .pre .0) (s .pre .1 .0) (s .pre .1 .1 .1 .0)
+          (l .loop .inv .1) (at-place-for .place-for .ensures) (at-mark .mark .ensures .0) (at-mark .mark .ensures .1) (c .if1 .taken),
+    )
 
 loop-again : tie.Need-loop-again Inv-loop μ-loop
 loop-again c =
-    let a = c .before .before .before .before .before .before .before .before .before .before .before .before .before .before .before .args in
-    (searching-more _ _ (c .before .before .before .before .before .before .before .before .before .loop .inv .0) (c .before .before .before .before .before .before .before .before .loop-test .taken) (tells (findColumns (a .ids .now) (a .kinds .now) (a .class-ids .now) (a .dumped .now)) (length (a .working .now)) (c .before .before .before .before .before .before .before .before .before .before .before .before .before .before .before .pre .0) (c .before .before .before .before .before .before .before .before .before .before .before .before .before .before .before .pre .1 .0) (c .before .before .before .before .before .before .before .before .before .before .before .before .before .before .before .pre .1 .1 .1 .0) (c .before .before .before .before .before .before .before .before .before .loop .inv .1) (c .before .before .before .before .before .place-for .ensures) (c .before .before .before .mark .ensures .0) (c .before .before .before .mark .ensures .1) ∙ c .if1 .left), marked-next (findColumns (a .ids .now) (a .kinds .now) (a .class-ids .now) (a .dumped .now)) (length (a .working .now)) (c .before .before .before .before .before .before .before .before .before .before .before .before .before .before .before .pre .0) (c .before .before .before .before .before .before .before .before .before .before .before .before .before .before .before .pre .1 .0) (c .before .before .before .before .before .before .before .before .before .before .before .before .before .before .before .pre .1 .1 .1 .0) (c .before .before .before .before .before .before .before .before .before .loop .inv .1) (c .before .before .before .before .before .place-for .ensures) (c .before .before .before .mark .ensures .0) (c .before .before .before .mark .ensures .1) (c .if1 .left))
+    let at-mark = c .before .before .before in
+    let at-place-for = at-mark .before .before in
+    let i = at-place-for .before .before .before in
+    let l = i .before in
+    let s = l .before .before .before .before .before .before in
+    let a = s .args in (
+      searching-more _ _ (l .loop .inv .0) (i .loop-test .taken) (tells (findColumns (a .ids .now) (a .kinds .now) (a .class-ids .now) (a .dumped .now)) (length (a .working .now))
+          (s .pre .0) (s .pre .1 .0) (s .pre .1 .1 .1 .0) (l .loop .inv .1) (at-place-for .place-for .ensures) (at-mark .mark .ensures .0) (at-mark .mark .ensures .1) ∙ c .if1 .left),
+      marked-next (findColumns (a .ids .now) (a .kinds .now) (a .class-ids .now) (a .dumped .now)) (length (a .working .now)) (s .pre .0) (s .pre .1 .0) (s .pre .1 .1 .1 .0)
+          (l .loop .inv .1) (at-place-for .place-for .ensures) (at-mark .mark .ensures .0) (at-mark .mark .ensures .1) (c .if1 .left),
+    )
 
 same-length-2 : tie.Need-same-length-2 Inv-loop μ-loop
 same-length-2 c = c .before .loop .inv .1 .same
 
 same-length : tie.Need-same-length Inv-loop μ-loop
 same-length c =
-    let a = c .before .before .before .before .before .before .before .before .before .before .before .before .before .before .before .args in
-    let m = marked-last (findColumns (a .ids .now) (a .kinds .now) (a .class-ids .now) (a .dumped .now)) (length (a .working .now)) (c .before .before .before .before .before .before .before .before .before .before .before .before .before .before .before .pre .0) (c .before .before .before .before .before .before .before .before .before .before .before .before .before .before .before .pre .1 .0) (c .before .before .before .before .before .before .before .before .before .before .before .before .before .before .before .pre .1 .1 .1 .0) (c .before .before .before .before .before .before .before .before .before .loop .inv .1) (c .before .before .before .before .before .place-for .ensures) (c .before .before .before .mark .ensures .0) (c .before .before .before .mark .ensures .1) (c .if1 .taken) in
+    let at-mark = c .before .before .before in
+    let at-place-for = at-mark .before .before in
+    let l = at-place-for .before .before .before .before in
+    let s = l .before .before .before .before .before .before in
+    let a = s .args in
+    let m = marked-last (findColumns (a .ids .now) (a .kinds .now) (a .class-ids .now) (a .dumped .now)) (length (a .working .now)) (s .pre .0) (s .pre .1 .0) (s .pre .1 .1 .1 .0)
+    (l .loop .inv .1) (at-place-for .place-for .ensures) (at-mark .mark .ensures .0) (at-mark .mark .ensures .1) (c .if1 .taken) in
     marks-same _ _ _ m
 
 pub first-marked-spec : {M : Type 1} → statement M

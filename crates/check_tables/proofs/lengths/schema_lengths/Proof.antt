@@ -26,7 +26,13 @@ returns-4 c = some-fourth _ _ _ _ (sym (c .before .differ22 .ensures) ∙ c .if4
 returns-5 : tie.Need-returns-5
 unfolding schemaLengths
 returns-5 c =
-    none-four _ _ _ _ (sym (c .before .before .before .before .before .before .before .differ3 .ensures) ∙ c .before .before .before .before .before .before .if1 .left) (sym (c .before .before .before .before .before .differ4 .ensures) ∙ c .before .before .before .before .if2 .left) (sym (c .before .before .before .differ2 .ensures) ∙ c .before .before .if3 .left) (sym (c .before .differ22 .ensures) ∙ c .if4 .left)
+    let at-differ2 = c .before .before .before in
+    let at-if2 = at-differ2 .before in
+    let at-differ4 = at-if2 .before in
+    let at-if1 = at-differ4 .before in
+    let at-differ3 = at-if1 .before in
+    none-four _ _ _ _ (sym (at-differ3 .differ3 .ensures) ∙ at-if1 .if1 .left) (sym (at-differ4 .differ4 .ensures) ∙ at-if2 .if2 .left)
+    (sym (at-differ2 .differ2 .ensures) ∙ c .before .before .if3 .left) (sym (c .before .differ22 .ensures) ∙ c .if4 .left)
 
 pub schema-lengths-spec : {M : Type 1} → statement M
 schema-lengths-spec =

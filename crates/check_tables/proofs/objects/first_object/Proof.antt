@@ -23,20 +23,28 @@ loop-holds c = (searching-start _ _, refl)
 
 returns : tie.Need-returns Inv-loop μ-loop
 returns c =
-    let a = c .before .before .before .before .before .before .before .before .before .before .before .before .before .args in
-    searching-hit _ _ (c .before .before .before .before .before .before .before .loop .inv .0) (c .before .before .before .before .before .before .loop-test .taken)
-    (object-fault (a .ids .now) (a .kinds .now) (a .classes .now) (a .lengths .now) (a .class-ids .now) (c .before .before .before .before .before .before .before .loop .o)
-    ∙ ap (λ b. objectFault b (a .ids .now ! c .before .before .before .before .before .before .before .loop .o) (a .kinds .now ! c .before .before .before .before .before .before .before .loop .o) (a .classes .now ! c .before .before .before .before .before .before .before .loop .o) (a .lengths .now ! c .before .before .before .before .before .before .before .loop .o) (length (a .class-ids .now))) (sym (c .before .before .before .before .before .before .before .loop .inv .1))
+    let i = c .before .before .before .before .before .before in
+    let l = i .before in
+    let s = l .before .before .before .before .before .before in
+    let a = s .args in
+    searching-hit _ _ (l .loop .inv .0) (i .loop-test .taken)
+    (object-fault (a .ids .now) (a .kinds .now) (a .classes .now) (a .lengths .now) (a .class-ids .now) (l .loop .o)
+    ∙ ap (λ b. objectFault b (a .ids .now ! l .loop .o) (a .kinds .now ! l .loop .o) (a .classes .now ! l .loop .o) (a .lengths .now ! l .loop .o) (length (a .class-ids .now)))
+    (sym (l .loop .inv .1))
     ∙ sym (c .before .object-fault .ensures) ∙ c .if1 .taken)
 
 loop-again : tie.Need-loop-again Inv-loop μ-loop
 loop-again c =
-    let a = c .before .before .before .before .before .before .before .before .before .before .before .before .before .args in (
-      searching-more _ _ (c .before .before .before .before .before .before .before .loop .inv .0) (c .before .before .before .before .before .before .loop-test .taken)
-          (object-fault (a .ids .now) (a .kinds .now) (a .classes .now) (a .lengths .now) (a .class-ids .now) (c .before .before .before .before .before .before .before .loop .o)
-          ∙ ap (λ b. objectFault b (a .ids .now ! c .before .before .before .before .before .before .before .loop .o) (a .kinds .now ! c .before .before .before .before .before .before .before .loop .o) (a .classes .now ! c .before .before .before .before .before .before .before .loop .o) (a .lengths .now ! c .before .before .before .before .before .before .before .loop .o) (length (a .class-ids .now))) (sym (c .before .before .before .before .before .before .before .loop .inv .1))
+    let i = c .before .before .before .before .before .before in
+    let l = i .before in
+    let s = l .before .before .before .before .before .before in
+    let a = s .args in (
+      searching-more _ _ (l .loop .inv .0) (i .loop-test .taken)
+          (object-fault (a .ids .now) (a .kinds .now) (a .classes .now) (a .lengths .now) (a .class-ids .now) (l .loop .o)
+          ∙ ap (λ b. objectFault b (a .ids .now ! l .loop .o) (a .kinds .now ! l .loop .o) (a .classes .now ! l .loop .o) (a .lengths .now ! l .loop .o)
+          (length (a .class-ids .now))) (sym (l .loop .inv .1))
           ∙ sym (c .before .object-fault .ensures) ∙ c .if1 .left),
-      prior-more (a .ids .now) (c .before .before .before .before .before .before .before .loop .o),
+      prior-more (a .ids .now) (l .loop .o),
     )
 
 returns-2 : tie.Need-returns-2 Inv-loop μ-loop

@@ -23,7 +23,7 @@ returns-2 c =
     let a = c .before .before .before .before .args in
     let t : anyOf (ltb (a .escape-at) (a .escapes) ∷ ltb (a .escape-label) (a .escapes) ∷ []) ≡ false
     = sym (c .before .before .before .is-short .ensures) ∙ c .before .before .if1 .left in
-    c .room2 .ensures ∙ sym (rw (t, lt-ltb (a .codes) (a .edges) (omega arith)))
+    c .room2 .ensures ∙ sym (rw (t, lt-ltb (a .edge-codes) (a .edges) (omega arith)))
 
 returns-3 : tie.Need-returns-3
 unfolding anyOf
@@ -31,7 +31,7 @@ returns-3 c =
     let a = c .before .before .before .before .args in
     let t : anyOf (ltb (a .escape-at) (a .escapes) ∷ ltb (a .escape-label) (a .escapes) ∷ []) ≡ false
     = sym (c .before .before .before .is-short .ensures) ∙ c .before .before .if1 .left in
-    c .room3 .ensures ∙ sym (rw (t, le-ltb (a .codes) (a .edges) (omega arith)))
+    c .room3 .ensures ∙ sym (rw (t, le-ltb (a .edge-codes) (a .edges) (omega arith)))
 
 pub first-short-spec : {M : Type 1} → statement M
 first-short-spec = tie.close (tie.spec (λ c κs. search needs) (λ c κs. search needs) returns (λ c κs. search needs) returns-2 (λ c κs. search needs) returns-3)

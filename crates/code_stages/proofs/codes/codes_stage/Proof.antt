@@ -28,56 +28,108 @@ returns : tie.Need-returns
 returns c =
     let s = c .before .before .before .before .before .before .before .before in
     let a = s .args in
-    codes-handed (builtSays (a .v)) (a .names) (a .table .now) (a .offsets .now) (a .labels .now) (a .codes .now) (a .escape-at .now) (a .escape-label .now) (accepts-refused (c .enum-told .given .1))
+    codes-handed (builtSays (a .v)) (a .names) (a .table .now) (a .offsets .now) (a .labels .now) (a .edge-codes .now) (a .escape-at .now)
+    (a .escape-label .now) (accepts-refused (c .enum-told .given .1))
 
 count-escapes-requires : tie.Need-count-escapes-requires
-count-escapes-requires c κs = let p = c .before .before .before .before .before .before .before .before .before .before .pre (accepts-done (c .before .before .v .given .1)) in (p .room, p .laid)
+count-escapes-requires c κs =
+    let at-v = c .before .before in
+    let s = at-v .before .before .before .before .before .before .before .before in
+    let p = s .pre (accepts-done (at-v .v .given .1)) in
+    (p .room, p .laid)
 
 returns-2 : tie.Need-returns-2
 returns-2 c =
-    let s = c .before .before .before .before .before .before .before .before .before .before .before .before in
+    let at-count-escapes = c .before in
+    let at-v = at-count-escapes .before .before .before in
+    let s = at-v .before .before .before .before .before .before .before .before in
     let a = s .args in
-    let y = accepts-done (c .before .before .before .before .v .given .1) in
+    let y = accepts-done (at-v .v .given .1) in
     let n = rows s in
-    let few : length (a .codes .now) < length (a .labels .now) = omega arith in
-    codes-short (builtSays (a .v)) (a .names) (a .table .now) (a .offsets .now) (a .labels .now) (a .codes .now) (a .escape-at .now) (a .escape-label .now) y (labelRoom n (length (a .labels .now)) (length (a .escape-at .now)) (length (a .escape-label .now)) (length (a .codes .now)) (9 ∷ 8 ∷ [])) (label-refuses n (length (a .labels .now)) (length (a .escape-at .now)) (length (a .escape-label .now)) (length (a .codes .now)) 8) (c .first-short .ensures ∙ ap (λ (k : ℕ). labelRoom k (length (a .labels .now)) (length (a .escape-at .now)) (length (a .escape-label .now)) (length (a .codes .now)) (9 ∷ 8 ∷ [])) (c .before .count-escapes .ensures .rows))
-    (label-codes-short n (length (a .labels .now)) (length (a .escape-at .now)) (length (a .escape-label .now)) (length (a .codes .now)) few (9 ∷ 8 ∷ []) (set (builtSays (a .v)) 6 n))
+    let e = length (a .labels .now) in
+    let m₁ = length (a .escape-at .now) in
+    let m₂ = length (a .escape-label .now) in
+    let m₃ = length (a .edge-codes .now) in
+    let few : m₃ < e = omega arith in
+    codes-short (builtSays (a .v)) (a .names) (a .table .now) (a .offsets .now) (a .labels .now) (a .edge-codes .now) (a .escape-at .now) (a .escape-label .now)
+    y (labelRoom n e m₁ m₂ m₃ (9 ∷ 8 ∷ [])) (label-refuses n e m₁ m₂ m₃ 8)
+    (c .first-short .ensures ∙ ap (λ (k : ℕ). labelRoom k e m₁ m₂ m₃ (9 ∷ 8 ∷ [])) (at-count-escapes .count-escapes .ensures .rows))
+    (label-codes-short n e m₁ m₂ m₃ few (9 ∷ 8 ∷ []) (set (builtSays (a .v)) 6 n))
 
 code-objects-requires : tie.Need-code-objects-requires
-code-objects-requires c κs = let p = c .before .before .before .before .before .before .before .before .before .before .before .pre (accepts-done (c .before .before .before .v .given .1)) in (p .room, p .laid, omega arith)
+code-objects-requires c κs =
+    let at-v = c .before .before .before in
+    let s = at-v .before .before .before .before .before .before .before .before in
+    let p = s .pre (accepts-done (at-v .v .given .1)) in
+    (p .room, p .laid, omega arith)
 
 count-escaped-requires : tie.Need-count-escaped-requires
-count-escaped-requires c κs = omega (arith, c .before .before .before .before .before .if1 .left)
+count-escaped-requires c κs =
+    let at-if1 = c .before .before .before .before .before in
+    omega (arith, at-if1 .if1 .left)
 
 returns-3 : tie.Need-returns-3
 returns-3 c =
-    let s = c .before .before .before .before .before .before .before .before .before .before .before .before .before .before .before .before .before .before .before in
+    let at-if2 = c .before in
+    let at-is-short = at-if2 .before in
+    let at-count-escaped = at-is-short .before in
+    let at-code-objects = at-count-escaped .before .before .before .before in
+    let at-v = at-code-objects .before .before .before .before in
+    let s = at-v .before .before .before .before .before .before .before .before in
     let a = s .args in
-    let y = accepts-done (c .before .before .before .before .before .before .before .before .before .before .before .v .given .1) in
+    let y = accepts-done (at-v .v .given .1) in
     let p = s .pre y in
     let n = rows s in
-    let is : c .before .before .before .count-escaped .result ≡ n = c .before .before .before .count-escaped .ensures ∙ codes-rows (a .names) (a .table .now) (a .offsets .now) (a .labels .now) (a .codes .now) _ (p .laid) (c .before .before .before .before .before .before .before .code-objects .ensures) in
-    let t : anyOf (ltb (length (a .escape-at .now)) n ∷ ltb (length (a .escape-label .now)) n ∷ []) ≡ true = ap (λ (k : ℕ). anyOf (ltb (length (a .escape-at .now)) k ∷ ltb (length (a .escape-label .now)) k ∷ [])) (sym is) ∙ sym (c .before .before .is-short .ensures) ∙ c .before .if2 .taken in
-    codes-short (builtSays (a .v)) (a .names) (a .table .now) (a .offsets .now) (a .labels .now) (a .codes .now) (a .escape-at .now) (a .escape-label .now) y (9 ∷ 7 ∷ []) seven (c .room .ensures) (sym (label-escapes-short n (length (a .labels .now)) (length (a .escape-at .now)) (length (a .escape-label .now)) (length (a .codes .now)) t (set (builtSays (a .v)) 6 n)))
+    let e = length (a .labels .now) in
+    let m₁ = length (a .escape-at .now) in
+    let m₂ = length (a .escape-label .now) in
+    let m₃ = length (a .edge-codes .now) in
+    let is : at-count-escaped .count-escaped .result ≡ n = at-count-escaped .count-escaped .ensures
+    ∙ codes-rows (a .names) (a .table .now) (a .offsets .now) (a .labels .now) (a .edge-codes .now) _ (p .laid) (at-code-objects .code-objects .ensures) in
+    let t : anyOf (ltb m₁ n ∷ ltb m₂ n ∷ []) ≡ true = ap (λ (k : ℕ). anyOf (ltb m₁ k ∷ ltb m₂ k ∷ [])) (sym is)
+    ∙ sym (at-is-short .is-short .ensures) ∙ at-if2 .if2 .taken in
+    codes-short (builtSays (a .v)) (a .names) (a .table .now) (a .offsets .now) (a .labels .now) (a .edge-codes .now) (a .escape-at .now) (a .escape-label .now)
+    y (9 ∷ 7 ∷ []) seven (c .room .ensures) (sym (label-escapes-short n e m₁ m₂ m₃ t (set (builtSays (a .v)) 6 n)))
 
 write-escapes-requires : tie.Need-write-escapes-requires
 write-escapes-requires c κs =
-    let s = c .before .before .before .before .before .before .before .before .before .before .before .before .before .before .before .before .before .before .before .before .before in
+    let at-if2 = c .before .before .before in
+    let at-is-short = at-if2 .before in
+    let at-count-escaped = at-is-short .before in
+    let at-if1 = at-count-escaped .before .before .before .before .before .before in
+    let s = at-if1 .before .before .before .before .before .before .before .before .before .before in
     let a = s .args in
-    let f = short-none (c .before .before .before .before .before .count-escaped .result) (length (a .escape-at .now)) (length (a .escape-label .now)) (sym (c .before .before .before .before .is-short .ensures) ∙ c .before .before .before .if2 .left) in
-    (omega (arith, c .before .before .before .before .before .before .before .before .before .before .before .if1 .left), record { at = omega (arith, c .before .before .before .before .before .count-escaped .ensures, f .0); label = omega (arith, c .before .before .before .before .before .count-escaped .ensures, f .1) })
+    let f = short-none (at-count-escaped .count-escaped .result) (length (a .escape-at .now)) (length (a .escape-label .now))
+    (sym (at-is-short .is-short .ensures) ∙ at-if2 .if2 .left) in (
+      omega (arith, at-if1 .if1 .left),
+      record { at = omega (arith, at-count-escaped .count-escaped .ensures, f .0); label = omega (arith, at-count-escaped .count-escaped .ensures, f .1) },
+    )
 
 returns-4 : tie.Need-returns-4
 returns-4 c =
-    let s = c .before .before .before .before .before .before .before .before .before .before .before .before .before .before .before .before .before .before .before .before .before .before .before .before .before .before .before in
+    let at-write-escapes = c .before .before .before .before .before in
+    let at-if2 = at-write-escapes .before .before .before .before in
+    let at-is-short = at-if2 .before in
+    let at-count-escaped = at-is-short .before in
+    let at-code-objects = at-count-escaped .before .before .before .before in
+    let at-if1 = at-code-objects .before .before in
+    let at-v = at-if1 .before .before in
+    let s = at-v .before .before .before .before .before .before .before .before in
     let a = s .args in
-    let y = accepts-done (c .before .before .before .before .before .before .before .before .before .before .before .before .before .before .before .before .before .before .before .v .given .1) in
+    let y = accepts-done (at-v .v .given .1) in
     let p = s .pre y in
     let n = rows s in
-    let is : c .before .before .before .before .before .before .before .before .before .before .before .count-escaped .result ≡ n = c .before .before .before .before .before .before .before .before .before .before .before .count-escaped .ensures ∙ codes-rows (a .names) (a .table .now) (a .offsets .now) (a .labels .now) (a .codes .now) _ (p .laid) (c .before .before .before .before .before .before .before .before .before .before .before .before .before .before .before .code-objects .ensures) in
-    let t : anyOf (ltb (length (a .escape-at .now)) n ∷ ltb (length (a .escape-label .now)) n ∷ []) ≡ false = ap (λ (k : ℕ). anyOf (ltb (length (a .escape-at .now)) k ∷ ltb (length (a .escape-label .now)) k ∷ [])) (sym is) ∙ sym (c .before .before .before .before .before .before .before .before .before .before .is-short .ensures) ∙ c .before .before .before .before .before .before .before .before .before .if2 .left in
-    codes-coded (builtSays (a .v)) (a .names) (a .table .now) (a .offsets .now) (a .labels .now) (a .codes .now) (a .escape-at .now) (a .escape-label .now) y (p .laid) (omega (arith, p .room .few)) (c .before .before .before .before .before .before .before .before .before .before .before .before .before .before .before .code-objects .ensures) (omega (arith, c .before .before .before .before .before .before .before .before .before .before .before .before .before .before .before .before .before .if1 .left)) t (c .before .before .before .before .before .write-escapes .ensures)
-    (c .with-escapes .ensures ∙ ap (λ (b : Built). set (builtSays b) 6 (c .before .before .before .before .before .before .before .before .before .before .before .count-escaped .result)) (sym (c .before .before .before .before .before .before .before .before .before .before .before .before .before .before .before .before .before .before .before .v .given .1)) ∙ ap (set (builtSays (a .v)) 6) is)
+    let e = length (a .labels .now) in
+    let m₁ = length (a .escape-at .now) in
+    let m₂ = length (a .escape-label .now) in
+    let m₃ = length (a .edge-codes .now) in
+    let is : at-count-escaped .count-escaped .result ≡ n = at-count-escaped .count-escaped .ensures
+    ∙ codes-rows (a .names) (a .table .now) (a .offsets .now) (a .labels .now) (a .edge-codes .now) _ (p .laid) (at-code-objects .code-objects .ensures) in
+    let t : anyOf (ltb m₁ n ∷ ltb m₂ n ∷ []) ≡ false = ap (λ (k : ℕ). anyOf (ltb m₁ k ∷ ltb m₂ k ∷ [])) (sym is)
+    ∙ sym (at-is-short .is-short .ensures) ∙ at-if2 .if2 .left in
+    codes-coded (builtSays (a .v)) (a .names) (a .table .now) (a .offsets .now) (a .labels .now) (a .edge-codes .now) (a .escape-at .now) (a .escape-label .now)
+    y (p .laid) (omega (arith, p .room .few)) (at-code-objects .code-objects .ensures) (omega (arith, at-if1 .if1 .left)) t (at-write-escapes .write-escapes .ensures)
+    (c .with-escapes .ensures ∙ ap (λ (b : Built). set (builtSays b) 6 (at-count-escaped .count-escaped .result)) (sym (at-v .v .given .1)) ∙ ap (set (builtSays (a .v)) 6) is)
 
 pub codes-stage-spec : {M : Type 1} → statement M
 codes-stage-spec =

@@ -12,10 +12,10 @@ use Rattle.code_stages.proofs.codes.count_escaped.Statement.{statement}
 use Rattle.code_stages.proofs.codes.count_escaped.Tie as tie
 
 abbrev Inv-loop : tie.InvT-loop
-Inv-loop codes n rows₀ e₀ rows e = (e ≤ n) × (rows ≤ e) × (rows ≡ length (escapedTo codes e))
+Inv-loop edge-codes n rows₀ e₀ rows e = (e ≤ n) × (rows ≤ e) × (rows ≡ length (escapedTo edge-codes e))
 
 abbrev μ-loop : tie.MeasureT-loop
-μ-loop codes n rows₀ e₀ rows e = n - e
+μ-loop edge-codes n rows₀ e₀ rows e = n - e
 
 loop-holds : tie.Need-loop-holds Inv-loop μ-loop
 unfolding escapedTo places
@@ -37,7 +37,7 @@ returns : tie.Need-returns Inv-loop μ-loop
 returns c =
     let a = c .before .before .args in
     let e : c .before .loop .e ≡ a .n = omega arith in
-    c .before .loop .inv .2 ∙ ap (λ (n : ℕ). length (escapedTo (a .codes .now) n)) e
+    c .before .loop .inv .2 ∙ ap (λ (n : ℕ). length (escapedTo (a .edge-codes .now) n)) e
 
 pub count-escaped-spec : {M : Type 1} → statement M
 count-escaped-spec =

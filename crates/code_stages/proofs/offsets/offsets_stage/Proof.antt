@@ -13,13 +13,18 @@ use Rattle.code_stages.proofs.offsets.offsets_stage.Statement.{statemen
 use Rattle.code_stages.proofs.offsets.offsets_stage.Tie as tie
 
 returns : tie.Need-returns
-returns c = offsets-handed (c .before .before .before .before .before .before .before .args .offsets .now) (accepts-refused (c .enum-told .given .1))
+returns c =
+    let s = c .before .before .before .before .before .before .before in
+    offsets-handed (s .args .offsets .now) (accepts-refused (c .enum-told .given .1))
 
 returns-2 : tie.Need-returns-2
 returns-2 c =
-    let e = c .before .before .before .before .before .before .before .before .before .before .before .before .before .before .before .v .given .1 in
-    let o = codedSays (c .before .before .before .before .before .before .before .before .before .code-offsets .result) in
-    offsets-coded (c .before .before .before .before .before .before .before .before .before .before .before .before .before .before .before .before .before .before .before .before .before .before .args .offsets .now) (c .before .before .before .before .before .before .before .before .before .before .before .before .before .before .before .before .before .before .before .before .before .before .pre (accepts-done e)) (c .before .before .before .before .before .before .before .before .before .code-offsets .ensures) (builtSays (c .before .before .before .before .before .before .before .before .before .before .before .before .before .before .before .before .before .before .before .before .before .before .args .v)) _ (accepts-done e)
+    let at-code-offsets = c .before .before .before .before .before .before .before .before .before in
+    let at-v = at-code-offsets .before .before .before .before .before .before in
+    let s = at-v .before .before .before .before .before .before .before in
+    let e = at-v .v .given .1 in
+    let o = codedSays (at-code-offsets .code-offsets .result) in
+    offsets-coded (s .args .offsets .now) (s .pre (accepts-done e)) (at-code-offsets .code-offsets .ensures) (builtSays (s .args .v)) _ (accepts-done e)
     (c .with-long .ensures ∙ ap (λ (b : Built). cond (accepts o) (set (builtSays b) 4 (o ! 3)) o) (sym e))
 
 pub offsets-stage-spec : {M : Type 1} → statement M

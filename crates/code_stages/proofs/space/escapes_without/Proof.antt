@@ -7,7 +7,8 @@ use lib.ListN.{length}
 use Rattle.columns.specs.Columns.{over}
 use Rattle.rules.specs.Types.{LOADER}
 use Rattle.rules.specs.Labels.{fieldsOf, codeTable}
-use Rattle.labels.specs.Fields.{naming, namedBy, Named, Chosen}
+use denote.Ref.{now}
+use Rattle.labels.specs.Fields.{Naming, nameColumns, namedBy, Named, Chosen}
 use Rattle.labels.proofs.Listed.{chosen-listed, chosen-ranked, fields-named}
 use Rattle.labels.proofs.Tabling.{table-written}
 use Rattle.code_stages.proofs.Laws.{chosen-front, escapes-same}
@@ -15,10 +16,16 @@ use borrow.Author.Needs.{needs}
 use Rattle.code_stages.proofs.space.escapes_without.Statement.{statement}
 use Rattle.code_stages.proofs.space.escapes_without.Tie as tie
 
+-- the columns that names are read from
+abbrev named : tie.Start → Naming
+named s =
+    let a = s .args in
+    nameColumns now (a .slot-starts) (a .slot-ends) (a .static-starts) (a .static-ends) (a .slot-labels) (a .static-names) (a .static-types)
+
 abbrev named-of : tie.Start → List ℕ
 named-of s =
     let a = s .args in
-    namedBy (naming (a .slot-starts .now) (a .slot-ends .now) (a .static-starts .now) (a .static-ends .now) (a .slot-labels .now) (a .static-names .now) (a .static-types .now)) (a .classes)
+    namedBy (named s) (a .classes)
 
 abbrev fields : tie.Start → List ℕ
 fields s = fieldsOf (s .args .names) (named-of s) (s .args .labels .now)
@@ -49,50 +56,106 @@ slow-escapes-requires c κs =
 
 returns : tie.Need-returns
 returns c =
-    let s = c .before .before .before .before .before .before .before .before .before .before .before .before .before .before .before .before .before .before .before .before .before .before .before .before .before .before in
+    let at-slow-escapes = c .before .before in
+    let at-count-marked = at-slow-escapes .before .before .before in
+    let at-mark-named = at-count-marked .before .before .before .before in
+    let at-zero-u16 = at-mark-named .before .before .before .before in
+    let s = at-zero-u16 .before .before .before .before .before .before .before .before .before .before .before .before .before in
     let a = s .args in
     let p = s .pre in
     let few : a .names ≤ LOADER = omega (arith, p .all .few-names) in
-    escapes-same (a .offsets .now) (a .labels .now) (chosen-ranked (a .names) (a .table .now) (named-of s) (a .labels .now) few (p .room-table) (c .before .before .before .before .before .before .before .before .before .before .before .before .before .zero-u16 .ensures) (c .before .before .before .before .before .before .before .before .before .mark-named .ensures) (c .before .before .before .before .before .count-marked .ensures) (omega arith)) (c .before .before .slow-escapes .ensures .need)
+    escapes-same (a .offsets .now) (a .labels .now)
+    (chosen-ranked (a .names) (a .table .now) (named-of s) (a .labels .now) few (p .room-table) (at-zero-u16 .zero-u16 .ensures)
+    (at-mark-named .mark-named .ensures) (at-count-marked .count-marked .ensures) (omega arith)) (at-slow-escapes .slow-escapes .ensures .need)
 
 write-marked-requires : tie.Need-write-marked-requires
 write-marked-requires c κs =
-    let s = c .before .before .before .before .before .before .before .before .before .before .before .before .before .before .before .before .before .before .before .before .before .before .before .before in
+    let at-if1 = c .before .before in
+    let at-count-marked = at-if1 .before in
+    let at-mark-named = at-count-marked .before .before .before .before in
+    let at-zero-u16 = at-mark-named .before .before .before .before in
+    let s = at-zero-u16 .before .before .before .before .before .before .before .before .before .before .before .before .before in
     let a = s .args in
     let p = s .pre in
     let few : a .names ≤ LOADER = omega (arith, p .all .few-names) in
-    let is = chosen-listed (a .names) (a .table .now) (named-of s) (a .labels .now) few (p .room-table) (c .before .before .before .before .before .before .before .before .before .before .before .zero-u16 .ensures) (c .before .before .before .before .before .before .before .mark-named .ensures) (c .before .before .before .count-marked .ensures) (omega (arith, c .before .before .if1 .left)) in
-    (record { few = few; long = omega (arith, p .room-table) }, omega (arith, ap length is, p .room-fields))
+    let is = chosen-listed (a .names) (a .table .now) (named-of s) (a .labels .now) few (p .room-table) (at-zero-u16 .zero-u16 .ensures)
+    (at-mark-named .mark-named .ensures) (at-count-marked .count-marked .ensures) (omega (arith, at-if1 .if1 .left)) in
+    (record { few = few; long = omega (arith, p .room-table, at-zero-u16 .zero-u16 .kept .0, at-mark-named .mark-named .kept .1 .1 .1 .1 .1 .1 .1 .1 .1 .0) }, omega (arith, ap length is, p .room-fields))
 
 write-table-requires : tie.Need-write-table-requires
 write-table-requires c κs =
-    let s = c .before .before .before .before .before .before .before .before .before .before .before .before .before .before .before .before .before .before .before .before .before .before .before .before .before .before .before .before .before in
+    let at-write-marked = c .before .before .before .before in
+    let at-if1 = at-write-marked .before .before .before in
+    let at-count-marked = at-if1 .before in
+    let at-mark-named = at-count-marked .before .before .before .before in
+    let at-zero-u16 = at-mark-named .before .before .before .before in
+    let s = at-zero-u16 .before .before .before .before .before .before .before .before .before .before .before .before .before in
     let a = s .args in
     let p = s .pre in
     let few : a .names ≤ LOADER = omega (arith, p .all .few-names) in
-    let is = chosen-listed (a .names) (a .table .now) (named-of s) (a .labels .now) few (p .room-table) (c .before .before .before .before .before .before .before .before .before .before .before .before .before .before .before .before .zero-u16 .ensures) (c .before .before .before .before .before .before .before .before .before .before .before .before .mark-named .ensures) (c .before .before .before .before .before .before .before .before .count-marked .ensures) (omega (arith, c .before .before .before .before .before .before .before .if1 .left)) in
-    let w : Chosen (fields s) (a .fields .now) (c .before .before .before .before .before .before .before .before .count-marked .result) (c .before .before .before .before .write-marked .last .1 .1 .0) = record { used = c .before .before .before .before .before .before .before .before .count-marked .ensures ∙ ap length is; front = c .before .before .before .before .write-marked .ensures ∙ ap (λ (z : List ℕ). over z (a .fields .now)) is } in
-    let named : Named (a .names) (fields s) = fields-named (a .names) few (named-of s) (a .labels .now) in
-    ((record { few = few; long = omega (arith, p .room-table, c .before .before .before .before .before .before .before .before .before .before .before .before .before .before .before .before .zero-u16 .kept .0, c .before .before .before .before .before .before .before .before .before .before .before .before .mark-named .kept .1 .1 .1 .1 .1 .1 .1 .1 .1 .0) }, omega (arith, w .used, p .room-fields), omega (arith, c .before .before .before .before .before .before .before .if1 .left)), rw (chosen-front w) named)
+    let is = chosen-listed (a .names) (a .table .now) (named-of s) (a .labels .now) few (p .room-table) (at-zero-u16 .zero-u16 .ensures)
+    (at-mark-named .mark-named .ensures) (at-count-marked .count-marked .ensures) (omega (arith, at-if1 .if1 .left)) in
+    let w : Chosen (fields s) (a .fields .now) (at-count-marked .count-marked .result) (at-write-marked .write-marked .last .1 .1 .0) =
+    record {
+      used = at-count-marked .count-marked .ensures ∙ ap length is;
+      front =
+          at-write-marked .write-marked .ensures ∙ ap (λ (z : List ℕ). over z (a .fields .now)) is;
+    } in
+    let all-named : Named (a .names) (fields s) = fields-named (a .names) few (named-of s) (a .labels .now) in (
+      (
+        record { few = few; long = omega (arith, p .room-table, at-zero-u16 .zero-u16 .kept .0, at-mark-named .mark-named .kept .1 .1 .1 .1 .1 .1 .1 .1 .1 .0) },
+        omega (arith, w .used, p .room-fields, at-write-marked .write-marked .kept .1 .1 .0),
+        omega (arith, at-if1 .if1 .left),
+      ),
+      rw (chosen-front w) all-named,
+    )
 
 count-escapes-requires : tie.Need-count-escapes-requires
 count-escapes-requires c κs =
-    let s = c .before .before .before .before .before .before .before .before .before .before .before .before .before .before .before .before .before .before .before .before .before .before .before .before .before .before .before .before .before .before .before .before .before in
+    let at-write-table = c .before .before .before in
+    let at-mark-named = at-write-table .before .before .before .before .before .before .before .before .before .before .before .before .before in
+    let at-zero-u16 = at-mark-named .before .before .before .before in
+    let s = at-zero-u16 .before .before .before .before .before .before .before .before .before .before .before .before .before in
     let a = s .args in
     let p = s .pre in
-    let few : a .names ≤ LOADER = omega (arith, p .all .few-names) in
-    (record { few = few; long = omega (arith, p .room-table, c .before .before .before .before .before .before .before .before .before .before .before .before .before .before .before .before .before .before .before .before .zero-u16 .kept .0, c .before .before .before .before .before .before .before .before .before .before .before .before .before .before .before .before .mark-named .kept .1 .1 .1 .1 .1 .1 .1 .1 .1 .0, c .before .before .before .write-table .kept .1 .1 .1 .0) }, p .all .laid)
+    let few : a .names ≤ LOADER = omega (arith, p .all .few-names) in (
+      record {
+        few = few;
+        long = omega (
+          arith,
+          p .room-table,
+          at-zero-u16 .zero-u16 .kept .0,
+          at-mark-named .mark-named .kept .1 .1 .1 .1 .1 .1 .1 .1 .1 .0,
+          at-write-table .write-table .kept .1 .1 .1 .0,
+        );
+      },
+      p .all .laid,
+    )
 
 returns-2 : tie.Need-returns-2
 returns-2 c =
-    let s = c .before .before .before .before .before .before .before .before .before .before .before .before .before .before .before .before .before .before .before .before .before .before .before .before .before .before .before .before .before .before .before .before .before .before in
+    let at-write-table = c .before .before .before .before in
+    let at-write-marked = at-write-table .before .before .before .before .before in
+    let at-if1 = at-write-marked .before .before .before in
+    let at-count-marked = at-if1 .before in
+    let at-mark-named = at-count-marked .before .before .before .before in
+    let at-zero-u16 = at-mark-named .before .before .before .before in
+    let s = at-zero-u16 .before .before .before .before .before .before .before .before .before .before .before .before .before in
     let a = s .args in
     let p = s .pre in
     let few : a .names ≤ LOADER = omega (arith, p .all .few-names) in
-    let is = chosen-listed (a .names) (a .table .now) (named-of s) (a .labels .now) few (p .room-table) (c .before .before .before .before .before .before .before .before .before .before .before .before .before .before .before .before .before .before .before .before .before .zero-u16 .ensures) (c .before .before .before .before .before .before .before .before .before .before .before .before .before .before .before .before .before .mark-named .ensures) (c .before .before .before .before .before .before .before .before .before .before .before .before .before .count-marked .ensures) (omega (arith, c .before .before .before .before .before .before .before .before .before .before .before .before .if1 .left)) in
-    let w : Chosen (fields s) (a .fields .now) (c .before .before .before .before .before .before .before .before .before .before .before .before .before .count-marked .result) (c .before .before .before .before .before .before .before .before .before .write-marked .last .1 .1 .0) = record { used = c .before .before .before .before .before .before .before .before .before .before .before .before .before .count-marked .ensures ∙ ap length is; front = c .before .before .before .before .before .before .before .before .before .write-marked .ensures ∙ ap (λ (z : List ℕ). over z (a .fields .now)) is } in
-    let named : Named (a .names) (fields s) = fields-named (a .names) few (named-of s) (a .labels .now) in
-    let of = table-written (a .names) (fields s) (c .before .before .before .before .before .before .before .before .before .before .before .before .before .before .before .before .before .mark-named .last .1 .1 .1 .1 .1 .1 .1 .1 .1 .0) _ named (c .before .before .before .before .write-table .ensures ∙ ap (λ (z : List ℕ). over (codeTable (a .names) z) (c .before .before .before .before .before .before .before .before .before .before .before .before .before .before .before .before .before .mark-named .last .1 .1 .1 .1 .1 .1 .1 .1 .1 .0)) (chosen-front w)) in
+    let is = chosen-listed (a .names) (a .table .now) (named-of s) (a .labels .now) few (p .room-table) (at-zero-u16 .zero-u16 .ensures)
+    (at-mark-named .mark-named .ensures) (at-count-marked .count-marked .ensures) (omega (arith, at-if1 .if1 .left)) in
+    let w : Chosen (fields s) (a .fields .now) (at-count-marked .count-marked .result) (at-write-marked .write-marked .last .1 .1 .0) =
+    record {
+      used = at-count-marked .count-marked .ensures ∙ ap length is;
+      front =
+          at-write-marked .write-marked .ensures ∙ ap (λ (z : List ℕ). over z (a .fields .now)) is;
+    } in
+    let all-named : Named (a .names) (fields s) = fields-named (a .names) few (named-of s) (a .labels .now) in
+    let of = table-written (a .names) (fields s) (at-mark-named .mark-named .last .1 .1 .1 .1 .1 .1 .1 .1 .1 .0) _ all-named
+    (at-write-table .write-table .ensures ∙ ap (λ (z : List ℕ). over (codeTable (a .names) z)
+    (at-mark-named .mark-named .last .1 .1 .1 .1 .1 .1 .1 .1 .1 .0)) (chosen-front w)) in
     escapes-same (a .offsets .now) (a .labels .now) refl (c .count-escapes .ensures .need (fields s) of)
 
 pub escapes-without-spec : {M : Type 1} → statement M

@@ -9,14 +9,43 @@ use borrow.Author.Needs.{needs}
 use Rattle.edge_append.proofs.append.append.Statement.{statement}
 use Rattle.edge_append.proofs.append.append.Tie as tie
 
-an-edge : (c : tie.After-narrow) → Becomes (c .before .before .before .before .before .before .before .before .before .before .before .before .args .ids .now) (refOf (c .before .before .before .before .before .before .before .before .before .before .before .before .args .kind) (c .before .before .before .before .before .before .before .before .before .before .before .before .args .label) (c .before .before .before .before .before .before .before .before .before .before .before .before .args .kept) (c .before .before .before .before .before .before .before .before .before .before .before .before .args .id)) (edge (c .before .before .before .t .given .0 .0))
-an-edge c = let a = c .before .before .before .before .before .before .before .before .before .before .before .before .args in kept-edge (a .ids .now) (a .kind) (a .label) (a .kept) (a .id) (c .before .before .before .before .before .before .if1 .left) (as-sought (c .before .before .before .before .before .find-hinted .ensures) (c .before .before .before .t .given .1) (c .before .before .before .before .before .before .before .before .before .before .before .before .pre .rising)) (c .before .if2 .taken)
+an-edge : (c : tie.After-narrow) → Becomes (c .before .before .before .before .before .before .before .before .before .before .before .before .args .ids .now)
+    (refOf (c .before .before .before .before .before .before .before .before .before .before .before .before .args .kind)
+    (c .before .before .before .before .before .before .before .before .before .before .before .before .args .label)
+    (c .before .before .before .before .before .before .before .before .before .before .before .before .args .kept)
+    (c .before .before .before .before .before .before .before .before .before .before .before .before .args .id)) (edge (c .before .before .before .t .given .0 .0))
+an-edge c =
+    let at-t = c .before .before .before in
+    let at-find-hinted = at-t .before .before in
+    let at-if1 = at-find-hinted .before in
+    let s = at-if1 .before .before .before .before .before .before in
+    let a = s .args in kept-edge (a .ids .now) (a .kind) (a .label) (a .kept) (a .id) (at-if1 .if1 .left)
+    (as-sought (at-find-hinted .find-hinted .ensures) (at-t .t .given .1) (s .pre .rising)) (c .before .if2 .taken)
 
-a-weak : (c : tie.After-narrow2) → Becomes (c .before .before .before .before .before .before .before .before .before .before .before .before .args .ids .now) (refOf (c .before .before .before .before .before .before .before .before .before .before .before .before .args .kind) (c .before .before .before .before .before .before .before .before .before .before .before .before .args .label) (c .before .before .before .before .before .before .before .before .before .before .before .before .args .kept) (c .before .before .before .before .before .before .before .before .before .before .before .before .args .id)) (weak (c .before .before .before .t .given .0 .0))
-a-weak c = let a = c .before .before .before .before .before .before .before .before .before .before .before .before .args in other-weak (a .ids .now) (a .kind) (a .label) (a .kept) (a .id) (c .before .before .before .before .before .before .if1 .left) (as-sought (c .before .before .before .before .before .find-hinted .ensures) (c .before .before .before .t .given .1) (c .before .before .before .before .before .before .before .before .before .before .before .before .pre .rising)) (c .before .if2 .left)
+a-weak : (c : tie.After-narrow2) → Becomes (c .before .before .before .before .before .before .before .before .before .before .before .before .args .ids .now)
+    (refOf (c .before .before .before .before .before .before .before .before .before .before .before .before .args .kind)
+    (c .before .before .before .before .before .before .before .before .before .before .before .before .args .label)
+    (c .before .before .before .before .before .before .before .before .before .before .before .before .args .kept)
+    (c .before .before .before .before .before .before .before .before .before .before .before .before .args .id)) (weak (c .before .before .before .t .given .0 .0))
+a-weak c =
+    let at-t = c .before .before .before in
+    let at-find-hinted = at-t .before .before in
+    let at-if1 = at-find-hinted .before in
+    let s = at-if1 .before .before .before .before .before .before in
+    let a = s .args in other-weak (a .ids .now) (a .kind) (a .label) (a .kept) (a .id) (at-if1 .if1 .left)
+    (as-sought (at-find-hinted .find-hinted .ensures) (at-t .t .given .1) (s .pre .rising)) (c .before .if2 .left)
 
-a-missing : (c : tie.Then3) → Becomes (c .before .before .before .before .before .before .before .before .before .before .args .ids .now) (refOf (c .before .before .before .before .before .before .before .before .before .before .args .kind) (c .before .before .before .before .before .before .before .before .before .before .args .label) (c .before .before .before .before .before .before .before .before .before .before .args .kept) (c .before .before .before .before .before .before .before .before .before .before .args .id)) missing
-a-missing c = let a = c .before .before .before .before .before .before .before .before .before .before .args in lost-missing (a .ids .now) (a .kind) (a .label) (a .kept) (a .id) (c .before .before .before .before .if1 .left) (as-sought (c .before .before .before .find-hinted .ensures) (c .before .enum-told .given .1) (c .before .before .before .before .before .before .before .before .before .before .pre .rising)) (c .if3 .taken)
+a-missing : (c : tie.Then3) → Becomes (c .before .before .before .before .before .before .before .before .before .before .args .ids .now)
+    (refOf (c .before .before .before .before .before .before .before .before .before .before .args .kind)
+    (c .before .before .before .before .before .before .before .before .before .before .args .label)
+    (c .before .before .before .before .before .before .before .before .before .before .args .kept)
+    (c .before .before .before .before .before .before .before .before .before .before .args .id)) missing
+a-missing c =
+    let at-find-hinted = c .before .before .before in
+    let at-if1 = at-find-hinted .before in
+    let s = at-if1 .before .before .before .before .before .before in
+    let a = s .args in lost-missing (a .ids .now) (a .kind) (a .label) (a .kept) (a .id) (at-if1 .if1 .left)
+    (as-sought (at-find-hinted .find-hinted .ensures) (c .before .enum-told .given .1) (s .pre .rising)) (c .if3 .taken)
 
 returns : tie.Need-returns
 returns c =
@@ -57,7 +86,11 @@ returns-4 c = weak-appended (c .before .narrow2 .ensures) (a-weak (c .before)) (
 
 returns-5 : tie.Need-returns-5
 returns-5 c =
-    let a = c .before .before .before .before .before .before .before .before .before .before .args in nothing-appended (loader-nothing (a .ids .now) (a .kind) (a .label) (a .kept) (a .id) (c .before .before .before .before .if1 .left) (as-sought (c .before .before .before .find-hinted .ensures) (c .before .enum-told .given .1) (c .before .before .before .before .before .before .before .before .before .before .pre .rising)) (c .if3 .left)) refl
+    let at-find-hinted = c .before .before .before in
+    let at-if1 = at-find-hinted .before in
+    let s = at-if1 .before .before .before .before .before .before in
+    let a = s .args in nothing-appended (loader-nothing (a .ids .now) (a .kind) (a .label) (a .kept) (a .id) (at-if1 .if1 .left)
+    (as-sought (at-find-hinted .find-hinted .ensures) (c .before .enum-told .given .1) (s .pre .rising)) (c .if3 .left)) refl
 
 pub append-spec : {M : Type 1} → statement M
 append-spec =

@@ -5,45 +5,98 @@ use Rattle.edge_object.proofs.Whole.{room-slots, room-elements, room-st
 use Rattle.edge_object.proofs.object.object_raw.Statement.{statement}
 use Rattle.edge_object.proofs.object.object_raw.Tie as tie
 
+-- The way back from each part to the one before, and to the start.
+abbrev start : tie.After-object-slots → tie.Start
+start c =
+    c .before .before .before .before .before .before .before .before .before .before .before .before .before .before .before .before .before .before .before .before
+    .before .before .before
+
+abbrev before-elements : tie.After-object-elements → tie.After-object-slots
+before-elements c = c .before .before .before .before .before .before .before .before .before .before
+
+abbrev before-statics : tie.After-found-statics → tie.After-object-elements
+before-statics c = c .before .before .before .before .before .before .before .before .before .before
+
+abbrev before-loader : tie.After-found-loader → tie.After-found-statics
+before-loader c = c .before .before .before .before .before .before .before .before .before .before
+
 object-slots-requires : tie.Need-object-slots-requires
 unfolding rawParts
 object-slots-requires c κs =
-    (c .before .before .before .before .before .before .before .before .before .before .before .before .before .before .before .before .before .before .before .before .before .before .pre .1 .0, (c .before .before .before .before .before .before .before .before .before .before .before .before .before .before .before .before .before .before .before .before .before .before .pre .1 .1 .0, (c .before .before .before .before .before .before .before .before .before .before .before .before .before .before .before .before .before .before .before .before .before .before .pre .1 .1 .1 .0, room-slots (c .before .before .before .before .before .before .before .before .before .before .before .before .before .before .before .before .before .before .before .before .before .before .pre .1 .1 .1 .1 .1 .1 .1))))
+    let s = c .before .before .before .before .before .before .before .before .before .before .before .before .before .before .before .before .before .before .before .before
+    .before .before in
+    (s .pre .1 .0, (s .pre .1 .1 .0, (s .pre .1 .1 .1 .0, room-slots (s .pre .1 .1 .1 .1 .1 .1 .1))))
 
 object-elements-requires : tie.Need-object-elements-requires
 unfolding rawParts
 object-elements-requires c κs =
-    (c .before .before .before .before .before .before .before .before .before .before .before .before .before .before .before .before .before .before .before .before .before .before .before .before .before .before .before .before .before .before .before .before .pre .1 .1 .1 .1 .0, room-elements (c .before .before .before .before .before .before .before .before .before .before .before .before .before .before .before .before .before .before .before .before .before .before .before .before .before .before .before .before .before .before .before .before .pre .1 .1 .1 .1 .1 .1 .1) (c .before .before .before .before .before .before .before .before .before .object-slots .ensures))
+    let at-object-slots = c .before .before .before .before .before .before .before .before .before in
+    let s = start at-object-slots in
+    (s .pre .1 .1 .1 .1 .0, room-elements (s .pre .1 .1 .1 .1 .1 .1 .1) (at-object-slots .object-slots .ensures))
 
 found-statics-requires : tie.Need-found-statics-requires
 unfolding rawParts
 found-statics-requires c κs =
-    (c .before .before .before .before .before .before .before .before .before .before .before .before .before .before .before .before .before .before .before .before .before .before .before .before .before .before .before .before .before .before .before .before .before .before .before .before .before .before .before .before .before .before .pre .1 .1 .1 .1 .1 .0, room-statics (c .before .before .before .before .before .before .before .before .before .before .before .before .before .before .before .before .before .before .before .before .before .before .before .before .before .before .before .before .before .before .before .before .before .before .before .before .before .before .before .before .before .before .pre .1 .1 .1 .1 .1 .1 .1) (c .before .before .before .before .before .before .before .before .before .before .before .before .before .before .before .before .before .before .before .object-slots .ensures) (c .before .before .before .before .before .before .before .before .before .object-elements .ensures))
+    let at-object-elements = c .before .before .before .before .before .before .before .before .before in
+    let at-object-slots = before-elements at-object-elements in
+    let s = start at-object-slots in
+    (s .pre .1 .1 .1 .1 .1 .0, room-statics (s .pre .1 .1 .1 .1 .1 .1 .1) (at-object-slots .object-slots .ensures) (at-object-elements .object-elements .ensures))
 
 found-loader-requires : tie.Need-found-loader-requires
 unfolding rawParts
 found-loader-requires c κs =
-    (c .before .before .before .before .before .before .before .before .before .before .before .before .before .before .before .before .before .before .before .before .before .before .before .before .before .before .before .before .before .before .before .before .before .before .before .before .before .before .before .before .before .before .before .before .before .before .before .before .before .before .before .before .pre .1 .1 .1 .1 .1 .1 .0, room-loaders (c .before .before .before .before .before .before .before .before .before .before .before .before .before .before .before .before .before .before .before .before .before .before .before .before .before .before .before .before .before .before .before .before .before .before .before .before .before .before .before .before .before .before .before .before .before .before .before .before .before .before .before .before .pre .1 .1 .1 .1 .1 .1 .1) (c .before .before .before .before .before .before .before .before .before .before .before .before .before .before .before .before .before .before .before .before .before .before .before .before .before .before .before .before .before .object-slots .ensures) (c .before .before .before .before .before .before .before .before .before .before .before .before .before .before .before .before .before .before .before .object-elements .ensures) (c .before .before .before .before .before .before .before .before .before .found-statics .ensures))
+    let at-found-statics = c .before .before .before .before .before .before .before .before .before in
+    let at-object-elements = before-statics at-found-statics in
+    let at-object-slots = before-elements at-object-elements in
+    let s = start at-object-slots in (
+      s .pre .1 .1 .1 .1 .1 .1 .0,
+      room-loaders (s .pre .1 .1 .1 .1 .1 .1 .1) (at-object-slots .object-slots .ensures) (at-object-elements .object-elements .ensures)
+          (at-found-statics .found-statics .ensures),
+    )
 
 tally-requires : tie.Need-tally-requires
 unfolding rawParts
 tally-requires c κs =
-    all-grow (c .before .before .before .before .before .before .before .before .before .before .before .before .before .before .before .before .before .before .before .before .before .before .before .before .before .before .before .before .before .before .before .before .before .before .before .before .before .before .before .before .before .before .before .before .before .before .before .before .before .before .before .before .before .before .before .before .before .before .before .before .pre .1 .1 .1 .1 .1 .1 .1) (c .before .before .before .before .before .before .before .before .before .before .before .before .before .before .before .before .before .before .before .before .before .before .before .before .before .before .before .before .before .before .before .before .before .before .before .before .before .object-slots .ensures) (c .before .before .before .before .before .before .before .before .before .before .before .before .before .before .before .before .before .before .before .before .before .before .before .before .before .before .before .object-elements .ensures) (c .before .before .before .before .before .before .before .before .before .before .before .before .before .before .before .before .before .found-statics .ensures) (c .before .before .before .before .before .before .before .found-loader .ensures)
+    let at-found-loader = c .before .before .before .before .before .before .before in
+    let at-found-statics = before-loader at-found-loader in
+    let at-object-elements = before-statics at-found-statics in
+    let at-object-slots = before-elements at-object-elements in
+    let s = start at-object-slots in
+    all-grow (s .pre .1 .1 .1 .1 .1 .1 .1) (at-object-slots .object-slots .ensures) (at-object-elements .object-elements .ensures) (at-found-statics .found-statics .ensures)
+    (at-found-loader .found-loader .ensures)
 
 settle-requires : tie.Need-settle-requires
 unfolding rawParts
 settle-requires c κs =
-    settle-room (c .before .before .before .before .before .before .before .before .before .before .before .before .before .before .before .before .before .before .before .before .before .before .before .before .before .before .before .before .before .before .before .before .before .before .before .before .before .before .before .before .before .before .before .before .before .before .before .before .before .before .before .before .before .before .before .before .before .before .before .before .before .before .before .before .pre .1 .1 .1 .1 .1 .1 .1) (c .before .before .before .before .before .before .before .before .before .before .before .before .before .before .before .before .before .before .before .before .before .before .before .before .before .before .before .before .before .before .before .before .before .before .before .before .before .before .before .before .before .object-slots .ensures) (c .before .before .before .before .before .before .before .before .before .before .before .before .before .before .before .before .before .before .before .before .before .before .before .before .before .before .before .before .before .before .before .object-elements .ensures) (c .before .before .before .before .before .before .before .before .before .before .before .before .before .before .before .before .before .before .before .before .before .found-statics .ensures) (c .before .before .before .before .before .before .before .before .before .before .before .found-loader .ensures)
+    let at-found-loader = c .before .before .before .before .before .before .before .before .before .before .before in
+    let at-found-statics = before-loader at-found-loader in
+    let at-object-elements = before-statics at-found-statics in
+    let at-object-slots = before-elements at-object-elements in
+    let s = start at-object-slots in
+    settle-room (s .pre .1 .1 .1 .1 .1 .1 .1) (at-object-slots .object-slots .ensures) (at-object-elements .object-elements .ensures) (at-found-statics .found-statics .ensures)
+    (at-found-loader .found-loader .ensures)
 
 same-length : tie.Need-same-length
 unfolding rawParts
 same-length c =
-    same-targets (all-appended (c .before .before .before .before .before .before .before .before .before .before .before .before .before .before .before .before .before .before .before .before .before .before .before .before .before .before .before .before .before .before .before .before .before .before .before .before .before .before .before .before .before .before .before .before .before .before .before .before .before .before .before .before .before .before .before .before .before .before .before .before .before .before .before .before .before .before .before .before .before .pre .1 .1 .1 .1 .1 .1 .1) (c .before .before .before .before .before .before .before .before .before .before .before .before .before .before .before .before .before .before .before .before .before .before .before .before .before .before .before .before .before .before .before .before .before .before .before .before .before .before .before .before .before .before .before .before .before .before .object-slots .ensures) (c .before .before .before .before .before .before .before .before .before .before .before .before .before .before .before .before .before .before .before .before .before .before .before .before .before .before .before .before .before .before .before .before .before .before .before .before .object-elements .ensures) (c .before .before .before .before .before .before .before .before .before .before .before .before .before .before .before .before .before .before .before .before .before .before .before .before .before .before .found-statics .ensures) (c .before .before .before .before .before .before .before .before .before .before .before .before .before .before .before .before .found-loader .ensures))
+    let at-found-loader = c .before .before .before .before .before .before .before .before .before .before .before .before .before .before .before .before in
+    let at-found-statics = before-loader at-found-loader in
+    let at-object-elements = before-statics at-found-statics in
+    let at-object-slots = before-elements at-object-elements in
+    let s = start at-object-slots in
+    same-targets (all-appended (s .pre .1 .1 .1 .1 .1 .1 .1) (at-object-slots .object-slots .ensures) (at-object-elements .object-elements .ensures)
+    (at-found-statics .found-statics .ensures) (at-found-loader .found-loader .ensures))
 
 same-length-2 : tie.Need-same-length-2
 unfolding rawParts
 same-length-2 c =
-    same-labels (all-appended (c .before .before .before .before .before .before .before .before .before .before .before .before .before .before .before .before .before .before .before .before .before .before .before .before .before .before .before .before .before .before .before .before .before .before .before .before .before .before .before .before .before .before .before .before .before .before .before .before .before .before .before .before .before .before .before .before .before .before .before .before .before .before .before .before .before .before .before .before .before .pre .1 .1 .1 .1 .1 .1 .1) (c .before .before .before .before .before .before .before .before .before .before .before .before .before .before .before .before .before .before .before .before .before .before .before .before .before .before .before .before .before .before .before .before .before .before .before .before .before .before .before .before .before .before .before .before .before .before .object-slots .ensures) (c .before .before .before .before .before .before .before .before .before .before .before .before .before .before .before .before .before .before .before .before .before .before .before .before .before .before .before .before .before .before .before .before .before .before .before .before .object-elements .ensures) (c .before .before .before .before .before .before .before .before .before .before .before .before .before .before .before .before .before .before .before .before .before .before .before .before .before .before .found-statics .ensures) (c .before .before .before .before .before .before .before .before .before .before .before .before .before .before .before .before .found-loader .ensures))
+    let at-found-loader = c .before .before .before .before .before .before .before .before .before .before .before .before .before .before .before .before in
+    let at-found-statics = before-loader at-found-loader in
+    let at-object-elements = before-statics at-found-statics in
+    let at-object-slots = before-elements at-object-elements in
+    let s = start at-object-slots in
+    same-labels (all-appended (s .pre .1 .1 .1 .1 .1 .1 .1) (at-object-slots .object-slots .ensures) (at-object-elements .object-elements .ensures)
+    (at-found-statics .found-statics .ensures) (at-found-loader .found-loader .ensures))
 
 same-length-3 : tie.Need-same-length-3
 same-length-3 c = settled-objects (c .before .before .before .before .settle .ensures)
@@ -51,16 +104,35 @@ same-length-3 c = settled-objects (c .before .before .before .before .settle .en
 same-length-4 : tie.Need-same-length-4
 unfolding rawParts
 same-length-4 c =
-    settled-weak (c .before .before .before .before .before .before .before .before .before .before .before .before .before .before .before .before .before .before .before .before .before .before .before .before .before .before .before .before .before .before .before .before .before .before .before .before .before .before .before .before .before .before .before .before .before .before .before .before .before .before .before .before .before .before .before .before .before .before .before .before .before .before .before .before .before .before .before .before .before .pre .1 .1 .1 .1 .1 .1 .1) (c .before .before .before .before .before .before .before .before .before .before .before .before .before .before .before .before .before .before .before .before .before .before .before .before .before .before .before .before .before .before .before .before .before .before .before .before .before .before .before .before .before .before .before .before .before .before .object-slots .ensures) (c .before .before .before .before .before .before .before .before .before .before .before .before .before .before .before .before .before .before .before .before .before .before .before .before .before .before .before .before .before .before .before .before .before .before .before .before .object-elements .ensures) (c .before .before .before .before .before .before .before .before .before .before .before .before .before .before .before .before .before .before .before .before .before .before .before .before .before .before .found-statics .ensures) (c .before .before .before .before .before .before .before .before .before .before .before .before .before .before .before .before .found-loader .ensures) (c .before .before .before .before .settle .ensures)
+    let at-settle = c .before .before .before .before in
+    let at-found-loader = at-settle .before .before .before .before .before .before .before .before .before .before .before .before in
+    let at-found-statics = before-loader at-found-loader in
+    let at-object-elements = before-statics at-found-statics in
+    let at-object-slots = before-elements at-object-elements in
+    let s = start at-object-slots in
+    settled-weak (s .pre .1 .1 .1 .1 .1 .1 .1) (at-object-slots .object-slots .ensures) (at-object-elements .object-elements .ensures) (at-found-statics .found-statics .ensures)
+    (at-found-loader .found-loader .ensures) (at-settle .settle .ensures)
 
 returns : tie.Need-returns
 unfolding rawParts
 returns c =
-    all-done (c .before .before .before .before .before .before .before .before .before .before .before .before .before .before .before .before .before .before .before .before .before .before .before .before .before .before .before .before .before .before .before .before .before .before .before .before .before .before .before .before .before .before .before .before .before .before .before .before .before .before .before .before .before .before .before .before .before .before .before .before .before .before .before .before .before .before .before .before .before .pre .1 .1 .1 .1 .1 .1 .1) (c .before .before .before .before .before .before .before .before .before .before .before .before .before .before .before .before .before .before .before .before .before .before .before .before .before .before .before .before .before .before .before .before .before .before .before .before .before .before .before .before .before .before .before .before .before .before .object-slots .ensures) (c .before .before .before .before .before .before .before .before .before .before .before .before .before .before .before .before .before .before .before .before .before .before .before .before .before .before .before .before .before .before .before .before .before .before .before .before .object-elements .ensures) (c .before .before .before .before .before .before .before .before .before .before .before .before .before .before .before .before .before .before .before .before .before .before .before .before .before .before .found-statics .ensures) (c .before .before .before .before .before .before .before .before .before .before .before .before .before .before .before .before .found-loader .ensures) (c .before .before .before .before .before .before .before .before .tally .ensures) (settled-as (c .before .before .before .before .before .narrow .ensures) (c .before .before .before .before .settle .ensures))
+    let at-settle = c .before .before .before .before in
+    let at-narrow = at-settle .before in
+    let at-tally = at-narrow .before .before .before in
+    let at-found-loader = at-tally .before .before .before .before .before .before .before .before in
+    let at-found-statics = before-loader at-found-loader in
+    let at-object-elements = before-statics at-found-statics in
+    let at-object-slots = before-elements at-object-elements in
+    let s = start at-object-slots in
+    all-done (s .pre .1 .1 .1 .1 .1 .1 .1) (at-object-slots .object-slots .ensures) (at-object-elements .object-elements .ensures) (at-found-statics .found-statics .ensures)
+    (at-found-loader .found-loader .ensures) (at-tally .tally .ensures) (settled-as (at-narrow .narrow .ensures) (at-settle .settle .ensures))
 
 narrow-requires : tie.Need-narrow-requires
 narrow-requires c κs =
-    c .before .before .before .before .before .before .before .before .before .before .before .before .before .before .before .before .before .before .before .before .before .before .before .before .before .before .before .before .before .before .before .before .before .before .before .before .before .before .before .before .before .before .before .before .before .before .before .before .before .before .before .before .before .before .before .before .before .before .before .before .before .before .before .pre .0
+    let s = c .before .before .before .before .before .before .before .before .before .before .before .before .before .before .before .before .before .before .before .before
+    .before .before .before .before .before .before .before .before .before .before .before .before .before .before .before .before .before .before .before .before .before .before
+    .before .before .before .before .before .before .before .before .before .before .before .before .before .before .before .before .before .before .before .before .before in
+    s .pre .0
 
 pub object-raw-spec : {M : Type 1} → statement M
 object-raw-spec =

@@ -7,6 +7,12 @@ use borrow.Author.Needs.{needs}
 use Rattle.edge_object.proofs.step.step_raw.Statement.{statement}
 use Rattle.edge_object.proofs.step.step_raw.Tie as tie
 
+-- the way back from the call to the start
+abbrev start : tie.After-object-raw → tie.Start
+start c =
+    c .before .before .before .before .before .before .before .before .before .before .before .before .before .before .before .before .before .before .before .before
+    .before .before .before .before .before .before .before .before .before .before .before .before .before .before .before .before .before .before .before .before
+
 slice-read-mark : tie.Need-slice-read-mark
 slice-read-mark c = omega (arith, c .before .before .before .before .before .before .before .before .before .before .before .before .before .before .before .before .before .before .before .before .before .before .before .before .before .before .pre .1 .0 .5)
 
@@ -47,23 +53,53 @@ shared-slice-read-index-3 c =
 
 object-raw-requires : tie.Need-object-raw-requires
 object-raw-requires c κs =
-    (c .before .before .before .before .before .before .before .before .before .before .before .before .before .before .before .before .before .before .before .before .before .before .before .before .before .before .before .before .before .before .before .before .before .before .before .before .before .before .before .pre .0, (rw (c .before .before .before .before .before .before .before .before .before .before .index .ensures) (c .before .before .before .before .before .before .before .before .before .before .before .before .before .before .before .before .before .before .before .before .before .before .before .before .before .before .before .before .before .before .before .before .before .before .before .before .before .before .before .pre .1 .1 .0), (c .before .before .before .before .before .before .before .before .before .before .before .before .before .before .before .before .before .before .before .before .before .before .before .before .before .before .before .before .before .before .before .before .before .before .before .before .before .before .before .pre .1 .1 .1 .0, (rw (c .before .before .before .before .before .index3 .ensures) (c .before .before .before .before .before .before .before .before .before .before .before .before .before .before .before .before .before .before .before .before .before .before .before .before .before .before .before .before .before .before .before .before .before .before .before .before .before .before .before .pre .1 .1 .1 .1 .0), (rw (c .before .before .before .before .before .before .before .before .index2 .ensures) (c .before .before .before .before .before .before .before .before .before .before .before .before .before .before .before .before .before .before .before .before .before .before .before .before .before .before .before .before .before .before .before .before .before .before .before .before .before .before .before .pre .1 .1 .1 .1 .1 .0), (c .before .before .before .before .before .before .before .before .before .before .before .before .before .before .before .before .before .before .before .before .before .before .before .before .before .before .before .before .before .before .before .before .before .before .before .before .before .before .before .pre .1 .1 .1 .1 .1 .1 .0, (c .before .before .before .before .before .before .before .before .before .before .before .before .before .before .before .before .before .before .before .before .before .before .before .before .before .before .before .before .before .before .before .before .before .before .before .before .before .before .before .pre .1 .1 .1 .1 .1 .1 .1 .0, rw (c .before .before .before .before .before .before .before .before .before .before .index .ensures, c .before .before .before .before .before .before .before .before .index2 .ensures, c .before .before .before .before .before .index3 .ensures) (c .before .before .before .before .before .before .before .before .before .before .before .before .before .before .before .before .before .before .before .before .before .before .before .before .before .before .before .before .before .before .before .before .before .before .before .before .before .before .before .pre .1 .1 .1 .1 .1 .1 .1 .1))))))))
+    let at-index3 = c .before .before .before .before .before in
+    let at-index2 = at-index3 .before .before .before in
+    let at-index = at-index2 .before .before in
+    let s = at-index .before .before .before .before .before .before .before .before .before .before .before .before .before .before .before .before .before .before .before .before
+    .before .before .before .before .before .before .before .before .before in (
+      s .pre .0,
+      (
+        rw (at-index .index .ensures) (s .pre .1 .1 .0),
+        (
+          s .pre .1 .1 .1 .0,
+          (
+            rw (at-index3 .index3 .ensures) (s .pre .1 .1 .1 .1 .0),
+            (
+              rw (at-index2 .index2 .ensures) (s .pre .1 .1 .1 .1 .1 .0),
+              (
+                s .pre .1 .1 .1 .1 .1 .1 .0,
+                (
+                  s .pre .1 .1 .1 .1 .1 .1 .1 .0,
+                  rw (at-index .index .ensures, at-index2 .index2 .ensures, at-index3 .index3 .ensures)
+                      (s .pre .1 .1 .1 .1 .1 .1 .1 .1),
+                ),
+              ),
+            ),
+          ),
+        ),
+      ),
+    )
 
 add-working : tie.Need-add-working
 add-working c =
-    omega (arith, c .before .before .before .before .before .before .before .before .before .before .before .before .before .before .before .before .before .before .before .before .before .before .before .before .before .before .before .before .before .before .before .before .before .before .before .before .before .before .before .before .before .before .before .before .before .before .before .before .pre .0)
+    let s = start (c .before .before .before .before .before .before .before .before) in
+    omega (arith, s .pre .0)
 
 mul-working : tie.Need-mul-working
 mul-working c =
-    omega (arith, c .before .before .before .before .before .before .before .before .before .before .before .before .before .before .before .before .before .before .before .before .before .before .before .before .before .before .before .before .before .before .before .before .before .before .before .before .before .before .before .before .before .before .before .before .before .before .before .before .pre .0)
+    let s = start (c .before .before .before .before .before .before .before .before) in
+    omega (arith, s .pre .0)
 
 slice-write-working : tie.Need-slice-write-working
 slice-write-working c =
-    omega (arith, c .before .before .before .before .before .before .before .before .before .before .before .before .before .before .before .before .before .before .before .before .before .before .before .before .before .before .before .before .before .before .before .before .before .before .before .before .before .before .before .before .before .before .before .before .before .before .before .before .pre .1 .0 .5)
+    let s = start (c .before .before .before .before .before .before .before .before) in
+    omega (arith, s .pre .1 .0 .5)
 
 same-length : tie.Need-same-length
 same-length c =
-    length-set (c .before .before .before .before .before .before .before .before .before .before .before .before .before .before .before .before .before .before .before .before .before .before .before .before .before .before .before .before .before .before .before .before .before .before .before .before .before .before .before .before .before .before .before .before .before .before .before .before .args .working .now) _ _
+    let s = start (c .before .before .before .before .before .before .before .before) in
+    length-set (s .args .working .now) _ _
 
 same-length-2 : tie.Need-same-length-2
 same-length-2 c = done-targets (c .before .before .before .before .before .before .before .before .object-raw .ensures)
@@ -79,7 +115,11 @@ same-length-5 c = done-weak (c .before .before .before .before .before .before .
 
 returns : tie.Need-returns
 returns c =
-    (rw (← c .before .before .before .before .before .before .before .before .before .before .before .before .before .before .before .before .before .before .before .index .ensures, ← c .before .before .before .before .before .before .before .before .before .before .before .before .before .before .before .before .before .index2 .ensures, ← c .before .before .before .before .before .before .before .before .before .before .before .before .before .before .index3 .ensures) (c .before .before .before .before .before .before .before .before .object-raw .ensures), refl)
+    let at-object-raw = c .before .before .before .before .before .before .before .before in
+    let at-index3 = at-object-raw .before .before .before .before .before .before in
+    let at-index2 = at-index3 .before .before .before in
+    let at-index = at-index2 .before .before in
+    (rw (← at-index .index .ensures, ← at-index2 .index2 .ensures, ← at-index3 .index3 .ensures) (at-object-raw .object-raw .ensures), refl)
 
 pub step-raw-spec : {M : Type 1} → statement M
 step-raw-spec =

@@ -3,48 +3,70 @@ use native.Mathlib.Omega.{arith}
 use mathlib.Core.Path.{refl, sym, _∙_}
 use borrow.Author.Tests.{not-true, not-false}
 use Rattle.rules.specs.Input.{Input}
-use Rattle.edge_pass.specs.Tables.{copiedInput}
+use denote.Ref.{now}
+use Rattle.rules.specs.Tables.{objectTable, staticTable, copiedRoute}
+use Rattle.edge_pass.specs.Tables.{passClasses, passSlots, passInput}
 use Rattle.edge_pass.proofs.Steps.{walked-targets, walked-labels, walked-objects, walked-weak, walked-working}
-use Rattle.edge_pass.proofs.Stages.{handed-escapes, handed-objects, handed-room, handed-account, edged, edged-not}
+use Rattle.edge_pass.proofs.Stages.{from-escapes, from-passable, from-account, edged-from, edged-from-not}
 use borrow.Author.Needs.{needs}
 use Rattle.edge_pass.proofs.copied.edges_copied.Statement.{statement}
 use Rattle.edge_pass.proofs.copied.edges_copied.Tie as tie
 
-abbrev X : tie.Start → Input
-X d = copiedInput (d .args .ids .now) (d .args .kinds .now) (d .args .classes .now) (d .args .lengths .now) (d .args .class-ids .now) (d .args .loaders .now) (d .args .dumped .now) (d .args .class-kinds .now) (d .args .slot-starts .now) (d .args .slot-ends .now) (d .args .static-starts .now) (d .args .static-ends .now) (d .args .slot-offsets .now) (d .args .slot-labels .now) (d .args .slot-weak .now) (d .args .static-names .now) (d .args .static-types .now) (d .args .static-values .now) (d .args .name-count) (d .args .codes .now) (d .args .escape-places .now) (d .args .escape-ids .now) (d .args .base) (d .args .starts .now) (d .args .roots .now) (d .args .policy)
+-- where `accepted` was asked, to the start
+abbrev begun : tie.After-accepted → tie.Start
+begun c =
+    c .before .before .before .before .before .before .before .before .before .before
+    .before .before .before .before .before .before .before .before .before .before
+    .before .before .before .before .before .before
+
+-- the end, to the call of the pass
+abbrev at-walk : tie.After-with-pass → tie.After-walk-copied
+at-walk c = c .before .before .before .before .before .before .before .before .before .before .before
+
+-- what the call is lent
+abbrev input : tie.Start → Input
+input d =
+    let a = d .args in
+    passInput
+    (objectTable now (a .ids) (a .kinds) (a .classes) (a .lengths))
+    (passClasses now (a .loaders) (a .class-kinds) (a .slot-starts) (a .slot-ends) (a .static-starts) (a .static-ends))
+    (passSlots now (a .slot-labels) (a .slot-weak))
+    (staticTable now (a .static-names) (a .static-types) (a .static-values))
+    (copiedRoute now (a .codes) (a .escape-places) (a .escape-ids) (a .base) (a .starts))
+    (a .policy)
 
 returns : tie.Need-returns
-returns c =
-    edged-not (X (c .before .before .before .before .before .before .before .before .before .before .before .before .before .before .before .before .before .before .before .before .before .before .before .before .before .before .before .before .before .before .before)) (sym (c .before .accepted .ensures) ∙ not-true _ (c .if1 .taken))
+returns c = edged-from-not (input (begun (c .before))) (sym (c .before .accepted .ensures) ∙ not-true _ (c .if1 .taken))
 
 walk-copied-requires : tie.Need-walk-copied-requires
 walk-copied-requires c κs =
-    let h = (c .before .before .before .before .before .before .before .before .before .before .before .before .before .before .before .before .before .before .before .before .before .before .before .before .before .before .before .before .before .before .before .before .before .before .before .before .before .before .before .pre (sym (c .before .before .before .before .before .before .before .before .before .accepted .ensures) ∙ not-false _ (c .before .before .before .before .before .before .before .before .if1 .left))) in
-    (handed-escapes (X (c .before .before .before .before .before .before .before .before .before .before .before .before .before .before .before .before .before .before .before .before .before .before .before .before .before .before .before .before .before .before .before .before .before .before .before .before .before .before .before)) h _ refl, (handed-objects (X (c .before .before .before .before .before .before .before .before .before .before .before .before .before .before .before .before .before .before .before .before .before .before .before .before .before .before .before .before .before .before .before .before .before .before .before .before .before .before .before)) h (omega (arith, c .before .before .before .before .before .before .before .before .before .before .before .before .before .before .before .before .before .before .before .before .before .before .before .before .before .before .before .before .before .before .before .before .before .before .before .before .before .before .before .good)), (handed-room (X (c .before .before .before .before .before .before .before .before .before .before .before .before .before .before .before .before .before .before .before .before .before .before .before .before .before .before .before .before .before .before .before .before .before .before .before .before .before .before .before)) h (c .before .before .before .before .before .before .begun .ensures), handed-account (X (c .before .before .before .before .before .before .before .before .before .before .before .before .before .before .before .before .before .before .before .before .before .before .before .before .before .before .before .before .before .before .before .before .before .before .before .before .before .before .before)) h (c .before .before .before .before .before .before .begun .result))))
+    let e = c .before .before .before .before .before .before .before .before in
+    let d = begun (e .before) in
+    let h = d .pre (sym (e .before .accepted .ensures) ∙ not-false _ (e .if1 .left)) in
+    let p = c .before .before .before .before .before .before .begun in
+    (from-escapes h _ refl, (from-passable h (omega (arith, d .good)) (p .ensures), from-account h (p .result)))
 
 same-length : tie.Need-same-length
-same-length c =
-    walked-working (c .before .before .before .before .before .before .before .before .before .before .before .walk-copied .ensures)
+same-length c = walked-working (at-walk c .walk-copied .ensures)
 
 same-length-2 : tie.Need-same-length-2
-same-length-2 c =
-    walked-targets (c .before .before .before .before .before .before .before .before .before .before .before .walk-copied .ensures)
+same-length-2 c = walked-targets (at-walk c .walk-copied .ensures)
 
 same-length-3 : tie.Need-same-length-3
-same-length-3 c =
-    walked-labels (c .before .before .before .before .before .before .before .before .before .before .before .walk-copied .ensures)
+same-length-3 c = walked-labels (at-walk c .walk-copied .ensures)
 
 same-length-4 : tie.Need-same-length-4
-same-length-4 c =
-    walked-objects (c .before .before .before .before .before .before .before .before .before .before .before .walk-copied .ensures)
+same-length-4 c = walked-objects (at-walk c .walk-copied .ensures)
 
 same-length-5 : tie.Need-same-length-5
-same-length-5 c =
-    walked-weak (c .before .before .before .before .before .before .before .before .before .before .before .walk-copied .ensures)
+same-length-5 c = walked-weak (at-walk c .walk-copied .ensures)
 
 returns-2 : tie.Need-returns-2
 returns-2 c =
-    edged (X (c .before .before .before .before .before .before .before .before .before .before .before .before .before .before .before .before .before .before .before .before .before .before .before .before .before .before .before .before .before .before .before .before .before .before .before .before .before .before .before .before .before .before .before .before .before .before .before .before .before .before .before)) (c .before .before .before .before .before .before .before .before .before .before .before .before .before .before .before .before .before .before .before .before .before .before .before .before .before .before .before .before .before .before .before .before .before .before .before .before .before .before .before .before .before .before .before .before .before .before .before .before .before .before .before .pre (sym (c .before .before .before .before .before .before .before .before .before .before .before .before .before .before .before .before .before .before .before .before .before .accepted .ensures) ∙ not-false _ (c .before .before .before .before .before .before .before .before .before .before .before .before .before .before .before .before .before .before .before .before .if1 .left))) (c .before .before .before .before .before .before .before .before .before .before .before .before .before .before .before .before .before .before .begun .ensures) (c .before .before .before .before .before .before .before .before .before .before .before .walk-copied .ensures) (c .with-pass .ensures)
+    let w = at-walk c in
+    let e = w .before .before .before .before .before .before .before .before .before in
+    edged-from (input (begun (e .before))) (sym (e .before .accepted .ensures) ∙ not-false _ (e .if1 .left))
+    (w .before .before .before .before .before .before .before .begun .ensures) (w .walk-copied .ensures) (c .with-pass .ensures)
 
 pub edges-copied-spec : {M : Type 1} → statement M
 edges-copied-spec =

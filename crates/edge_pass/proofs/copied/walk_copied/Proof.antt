@@ -1,11 +1,13 @@
 -- `edge_pass::copied::walk_copied` meets its contract: the first k objects of the range are passed, and the marks of the others still stand. Assumes nothing.
-use Prim.Native.Nat.{_≤_, _-_}
+use Prim.Native.Nat.{ℕ, _≤_, _-_}
 use native.Mathlib.Omega.{arith}
-use mathlib.Core.List.{[]}
+use mathlib.Core.List.{List}
+use denote.Ref.{now}
 use Rattle.rules.specs.Input.{Input}
 use Rattle.edge_append.specs.Account.{AccountIn}
 use Rattle.edge_append.specs.Object.{copiedPartsOf}
-use Rattle.edge_pass.specs.Tables.{copiedInput}
+use Rattle.rules.specs.Tables.{objectTable, staticTable, copiedRoute}
+use Rattle.edge_pass.specs.Tables.{passClasses, passSlots, passInput}
 use Rattle.edge_pass.specs.Walk.{Walked}
 use Rattle.edge_pass.specs.Range.{partsOf, partsFrom}
 use Rattle.edge_pass.proofs.Walks.{walk-none}
@@ -14,40 +16,83 @@ use Rattle.edge_pass.proofs.copied.walk_copied.Statement.{statement}
 use Rattle.edge_pass.proofs.copied.walk_copied.Tie as tie
 
 abbrev Inv-loop : tie.InvT-loop
-Inv-loop first count policy kinds classes lengths starts working₀ ids codes escape-places escape-ids base class-kinds slot-start slot-end slot-labels slot-weak loaders static-start static-end names types values hints scale targets₀ labels₀ weak-from₀ weak-to₀ account₀ s₀ row₀ k₀ working targets labels weak-from weak-to account s row k = (k ≤ count) × (Walked ids (partsFrom (copiedInput ids kinds classes lengths [] loaders [] class-kinds slot-start slot-end static-start static-end [] slot-labels slot-weak names types values 0 codes escape-places escape-ids base starts [] policy) working₀ first) first k s₀ s targets₀ labels₀ weak-from₀ weak-to₀ working₀ account₀ targets labels weak-from weak-to working account × AccountIn account s)
+Inv-loop
+    first count policy kinds classes lengths starts working₀ ids codes escape-places escape-ids base
+    class-kinds slot-starts slot-ends slot-labels slot-weak loaders static-starts static-ends static-names static-types static-values short scale
+    targets₀ labels₀ weak-from₀ weak-to₀ account₀ s₀ row₀ k₀
+    working targets labels weak-from weak-to account s row k =
+    let x =
+    passInput
+    (objectTable (λ (l : List ℕ). l) ids kinds classes lengths)
+    (passClasses (λ (l : List ℕ). l) loaders class-kinds slot-starts slot-ends static-starts static-ends)
+    (passSlots (λ (l : List ℕ). l) slot-labels slot-weak)
+    (staticTable (λ (l : List ℕ). l) static-names static-types static-values)
+    (copiedRoute (λ (l : List ℕ). l) codes escape-places escape-ids base starts)
+    policy in
+    (k ≤ count)
+    × (Walked ids (partsFrom x working₀ first) first k s₀ s targets₀ labels₀ weak-from₀ weak-to₀ working₀ account₀ targets labels weak-from weak-to working account
+    × AccountIn account s)
 
 abbrev μ-loop : tie.MeasureT-loop
-μ-loop first count policy kinds classes lengths starts working₀ ids codes escape-places escape-ids base class-kinds slot-start slot-end slot-labels slot-weak loaders static-start static-end names types values hints scale targets₀ labels₀ weak-from₀ weak-to₀ account₀ s₀ row₀ k₀ working targets labels weak-from weak-to account s row k = count - k
+μ-loop
+    first count policy kinds classes lengths starts working₀ ids codes escape-places escape-ids base
+    class-kinds slot-starts slot-ends slot-labels slot-weak loaders static-starts static-ends static-names static-types static-values short scale
+    targets₀ labels₀ weak-from₀ weak-to₀ account₀ s₀ row₀ k₀
+    working targets labels weak-from weak-to account s row k =
+    count - k
+
+abbrev before-loop : tie.After-slice-known5 Inv-loop μ-loop → tie.Start Inv-loop μ-loop
+before-loop c =
+    c .before .before .before .before .before .before .before .before .before .before
+    .before .before .before .before .before .before .before .before .before .before
+    .before .before .before .before .before
+
+abbrev begun : tie.At-loop Inv-loop μ-loop → tie.Start Inv-loop μ-loop
+begun c = before-loop (c .before)
 
 abbrev X : tie.Start Inv-loop μ-loop → Input
-X d = copiedInput (d .args .ids .now) (d .args .kinds .now) (d .args .classes .now) (d .args .lengths .now) [] (d .args .loaders .now) [] (d .args .class-kinds .now) (d .args .slot-starts .now) (d .args .slot-ends .now) (d .args .static-starts .now) (d .args .static-ends .now) [] (d .args .slot-labels .now) (d .args .slot-weak .now) (d .args .static-names .now) (d .args .static-types .now) (d .args .static-values .now) 0 (d .args .codes .now) (d .args .escape-places .now) (d .args .escape-ids .now) (d .args .base) (d .args .starts .now) [] (d .args .policy)
+X d =
+    let a = d .args in
+    passInput
+    (objectTable now (a .ids) (a .kinds) (a .classes) (a .lengths))
+    (passClasses now (a .loaders) (a .class-kinds) (a .slot-starts) (a .slot-ends) (a .static-starts) (a .static-ends))
+    (passSlots now (a .slot-labels) (a .slot-weak))
+    (staticTable now (a .static-names) (a .static-types) (a .static-values))
+    (copiedRoute now (a .codes) (a .escape-places) (a .escape-ids) (a .base) (a .starts))
+    (a .policy)
 
 loop-holds : tie.Need-loop-holds Inv-loop μ-loop
 loop-holds c =
-    (omega arith, (walk-none (partsFrom (X (c .before .before .before .before .before .before .before .before .before .before .before .before .before .before .before .before .before .before .before .before .before .before .before .before .before)) (c .before .before .before .before .before .before .before .before .before .before .before .before .before .before .before .before .before .before .before .before .before .before .before .before .before .args .working .now) (c .before .before .before .before .before .before .before .before .before .before .before .before .before .before .before .before .before .before .before .before .before .before .before .before .before .args .first)), c .before .before .before .before .before .before .before .before .before .before .before .before .before .before .before .before .before .before .before .before .before .before .before .before .before .pre .1 .1 .1))
+    let d = before-loop c in
+    (omega arith, (walk-none (partsFrom (X d) (now (d .args .working)) (d .args .first)), d .pre .1 .1))
 
 add-wide : tie.Need-add-wide Inv-loop μ-loop
-add-wide c = omega (arith, c .before .before .before .before .before .before .before .before .before .before .before .before .before .before .before .before .before .before .before .before .before .before .before .before .before .before .before .pre .1 .0 (c .before .loop .k) (c .loop-test .taken) .few)
+add-wide c = omega (arith, begun (c .before) .pre .1 .0 .objects (c .before .loop .k) (c .loop-test .taken) .few)
 
 mul-wide : tie.Need-mul-wide Inv-loop μ-loop
-mul-wide c = omega (arith, c .before .before .before .before .before .before .before .before .before .before .before .before .before .before .before .before .before .before .before .before .before .before .before .before .before .before .before .pre .1 .0 (c .before .loop .k) (c .loop-test .taken) .few)
+mul-wide c = omega (arith, begun (c .before) .pre .1 .0 .objects (c .before .loop .k) (c .loop-test .taken) .few)
 
 shared-slice-read-wide : tie.Need-shared-slice-read-wide Inv-loop μ-loop
-shared-slice-read-wide c = omega (arith, c .before .before .before .before .before .before .before .before .before .before .before .before .before .before .before .before .before .before .before .before .before .before .before .before .before .before .before .before .pre .1 .0 (c .before .before .loop .k) (c .before .loop-test .taken) .part .start)
+shared-slice-read-wide c = omega (arith, begun (c .before .before) .pre .1 .0 .objects (c .before .before .loop .k) (c .before .loop-test .taken) .part .start)
 
 add-step-copied : tie.Need-add-step-copied Inv-loop μ-loop
 add-step-copied c =
-    omega (arith, c .before .before .before .before .before .before .before .before .before .before .before .before .before .before .before .before .before .before .before .before .before .before .before .before .before .before .before .before .before .before .pre .1 .0 (c .before .before .before .before .loop .k) (c .before .before .before .loop-test .taken) .few)
+    let l = c .before .before .before .before in
+    omega (arith, begun l .pre .1 .0 .objects (l .loop .k) (c .before .before .before .loop-test .taken) .few)
 
 step-copied-requires : tie.Need-step-copied-requires Inv-loop μ-loop
 unfolding partsOf copiedPartsOf
 step-copied-requires c κs =
-    let o = object-now (X (c .before .before .before .before .before .before .before .before .before .before .before .before .before .before .before .before .before .before .before .before .before .before .before .before .before .before .before .before .before .before .before .before .before .before .before .before)) (c .before .before .before .before .before .before .before .before .before .before .loop .inv .1 .0) (c .before .before .before .before .before .before .before .before .before .before .before .before .before .before .before .before .before .before .before .before .before .before .before .before .before .before .before .before .before .before .before .before .before .before .before .before .pre .1 .0 (c .before .before .before .before .before .before .before .before .before .before .loop .k) (c .before .before .before .before .before .before .before .before .before .loop-test .taken)) in
-    (c .before .before .before .before .before .before .before .before .before .before .before .before .before .before .before .before .before .before .before .before .before .before .before .before .before .before .before .before .before .before .before .before .before .before .before .before .pre .0, (o .few, ((o .kind, o .class, o .count, o .part .start, o .offset), (o .part .slots, (o .part .elements, (o .statics, (o .loader, ready-now (X (c .before .before .before .before .before .before .before .before .before .before .before .before .before .before .before .before .before .before .before .before .before .before .before .before .before .before .before .before .before .before .before .before .before .before .before .before)) (c .before .before .before .before .before .before .before .before .before .before .loop .inv .1 .0) (c .before .before .before .before .before .before .before .before .before .before .before .before .before .before .before .before .before .before .before .before .before .before .before .before .before .before .before .before .before .before .before .before .before .before .before .before .pre .1 .1 .0) (c .before .before .before .before .before .before .before .before .before .loop-test .taken) (c .before .before .before .before .before .before .before .before .before .before .loop .inv .1 .1))))))))
+    let i = c .before .before .before .before .before .before .before .before .before in
+    let l = i .before in
+    let d = begun l in
+    let o = object-now (X d) (l .loop .inv .1 .0) (d .pre .1 .0 .objects (l .loop .k) (i .loop-test .taken)) in
+    (d .pre .0, (o .few, ((o .kind, o .class, o .count, o .part .start, o .offset), (o .part .slots, (o .part .elements, (o .statics, (o .loader, ready-now (X d) (l .loop .inv .1 .0) (d .pre .1 .0 .room) (i .loop-test .taken) (l .loop .inv .1 .1))))))))
 
 add-k : tie.Need-add-k Inv-loop μ-loop
 add-k c =
-    omega (arith, c .before .before .before .before .before .before .before .before .before .before .before .before .before .before .before .before .before .before .before .before .loop-test .taken, c .before .before .before .before .before .before .before .before .before .before .before .before .before .before .before .before .before .before .before .before .before .before .before .before .before .before .before .before .before .before .before .before .before .before .before .before .before .before .before .before .before .before .before .before .before .before .before .fits .count)
+    let i = c .before .before .before .before .before .before .before .before .before .before .before .before .before .before .before .before .before .before .before .before in
+    omega (arith, i .loop-test .taken, begun (i .before) .fits .count)
 
 loop-less : tie.Need-loop-less Inv-loop μ-loop
 loop-less c =
@@ -56,7 +101,10 @@ loop-less c =
 loop-again : tie.Need-loop-again Inv-loop μ-loop
 unfolding partsOf copiedPartsOf
 loop-again c =
-    (omega (arith, c .before .before .before .before .before .before .before .before .before .before .before .before .before .before .before .before .before .before .before .before .loop-test .taken), step-more (X (c .before .before .before .before .before .before .before .before .before .before .before .before .before .before .before .before .before .before .before .before .before .before .before .before .before .before .before .before .before .before .before .before .before .before .before .before .before .before .before .before .before .before .before .before .before .before .before)) (c .before .before .before .before .before .before .before .before .before .before .before .before .before .before .before .before .before .before .before .before .before .loop .inv .1 .0) (c .before .before .before .before .before .before .before .before .before .before .step-copied .ensures .0) (c .before .before .before .before .before .before .before .before .before .before .step-copied .ensures .1) (c .before .before .before .before .before .before .before .before .before .before .before .before .before .before .before .before .before .before .before .before .before .loop .inv .1 .1))
+    let s = c .before .before .before .before .before .before .before .before .before .before in
+    let i = s .before .before .before .before .before .before .before .before .before .before in
+    let l = i .before in
+    (omega (arith, i .loop-test .taken), step-more (X (begun l)) (l .loop .inv .1 .0) (s .step-copied .ensures .0) (s .step-copied .ensures .1) (l .loop .inv .1 .1))
 
 same-length : tie.Need-same-length Inv-loop μ-loop
 same-length c =

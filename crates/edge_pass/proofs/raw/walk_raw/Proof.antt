@@ -1,11 +1,13 @@
 -- `edge_pass::raw::walk_raw` meets its contract: the first k objects of the range are passed, and the marks of the others still stand. Assumes nothing.
-use Prim.Native.Nat.{_≤_, _-_}
+use Prim.Native.Nat.{ℕ, _≤_, _-_}
 use native.Mathlib.Omega.{arith}
-use mathlib.Core.List.{[]}
+use mathlib.Core.List.{List}
+use denote.Ref.{now}
 use Rattle.rules.specs.Input.{Input}
 use Rattle.edge_append.specs.Account.{AccountIn}
 use Rattle.edge_append.specs.Object.{rawPartsOf}
-use Rattle.edge_pass.specs.Tables.{rawInput}
+use Rattle.rules.specs.Tables.{objectTable, slotTable, staticTable, rawRoute}
+use Rattle.edge_pass.specs.Tables.{passClasses, passInput}
 use Rattle.edge_pass.specs.Walk.{Walked}
 use Rattle.edge_pass.specs.Range.{partsOf, partsFrom}
 use Rattle.edge_pass.proofs.Walks.{walk-none}
@@ -14,31 +16,72 @@ use Rattle.edge_pass.proofs.raw.walk_raw.Statement.{statement}
 use Rattle.edge_pass.proofs.raw.walk_raw.Tie as tie
 
 abbrev Inv-loop : tie.InvT-loop
-Inv-loop first count policy kinds classes lengths starts bodies working₀ ids bytes size class-kinds slot-start slot-end slot-offsets slot-labels slot-weak loaders static-start static-end names types values hints scale targets₀ labels₀ weak-from₀ weak-to₀ account₀ s₀ k₀ working targets labels weak-from weak-to account s k = (k ≤ count) × (Walked ids (partsFrom (rawInput ids kinds classes lengths [] loaders [] class-kinds slot-start slot-end static-start static-end slot-offsets slot-labels slot-weak names types values 0 bytes size starts bodies [] policy) working₀ first) first k s₀ s targets₀ labels₀ weak-from₀ weak-to₀ working₀ account₀ targets labels weak-from weak-to working account × AccountIn account s)
+Inv-loop
+    first count policy kinds classes lengths starts bodies working₀ ids bytes size
+    class-kinds slot-starts slot-ends slot-offsets slot-labels slot-weak loaders static-starts static-ends static-names static-types static-values short scale
+    targets₀ labels₀ weak-from₀ weak-to₀ account₀ s₀ k₀
+    working targets labels weak-from weak-to account s k =
+    let x =
+    passInput
+    (objectTable (λ (l : List ℕ). l) ids kinds classes lengths)
+    (passClasses (λ (l : List ℕ). l) loaders class-kinds slot-starts slot-ends static-starts static-ends)
+    (slotTable (λ (l : List ℕ). l) slot-offsets slot-labels slot-weak)
+    (staticTable (λ (l : List ℕ). l) static-names static-types static-values)
+    (rawRoute (λ (l : List ℕ). l) bytes size starts bodies)
+    policy in
+    (k ≤ count)
+    × (Walked ids (partsFrom x working₀ first) first k s₀ s targets₀ labels₀ weak-from₀ weak-to₀ working₀ account₀ targets labels weak-from weak-to working account
+    × AccountIn account s)
 
 abbrev μ-loop : tie.MeasureT-loop
-μ-loop first count policy kinds classes lengths starts bodies working₀ ids bytes size class-kinds slot-start slot-end slot-offsets slot-labels slot-weak loaders static-start static-end names types values hints scale targets₀ labels₀ weak-from₀ weak-to₀ account₀ s₀ k₀ working targets labels weak-from weak-to account s k = count - k
+μ-loop
+    first count policy kinds classes lengths starts bodies working₀ ids bytes size
+    class-kinds slot-starts slot-ends slot-offsets slot-labels slot-weak loaders static-starts static-ends static-names static-types static-values short scale
+    targets₀ labels₀ weak-from₀ weak-to₀ account₀ s₀ k₀
+    working targets labels weak-from weak-to account s k =
+    count - k
+
+abbrev before-loop : tie.After-slice-known5 Inv-loop μ-loop → tie.Start Inv-loop μ-loop
+before-loop c =
+    c .before .before .before .before .before .before .before .before .before .before
+    .before .before .before .before .before .before .before .before .before .before
+    .before .before .before .before .before
+
+abbrev begun : tie.At-loop Inv-loop μ-loop → tie.Start Inv-loop μ-loop
+begun c = before-loop (c .before)
 
 abbrev X : tie.Start Inv-loop μ-loop → Input
-X d = rawInput (d .args .ids .now) (d .args .kinds .now) (d .args .classes .now) (d .args .lengths .now) [] (d .args .loaders .now) [] (d .args .class-kinds .now) (d .args .slot-starts .now) (d .args .slot-ends .now) (d .args .static-starts .now) (d .args .static-ends .now) (d .args .slot-offsets .now) (d .args .slot-labels .now) (d .args .slot-weak .now) (d .args .static-names .now) (d .args .static-types .now) (d .args .static-values .now) 0 (d .args .bytes .now) (d .args .size) (d .args .starts .now) (d .args .bodies .now) [] (d .args .policy)
+X d =
+    let a = d .args in
+    passInput
+    (objectTable now (a .ids) (a .kinds) (a .classes) (a .lengths))
+    (passClasses now (a .loaders) (a .class-kinds) (a .slot-starts) (a .slot-ends) (a .static-starts) (a .static-ends))
+    (slotTable now (a .slot-offsets) (a .slot-labels) (a .slot-weak))
+    (staticTable now (a .static-names) (a .static-types) (a .static-values))
+    (rawRoute now (a .bytes) (a .size) (a .starts) (a .bodies))
+    (a .policy)
 
 loop-holds : tie.Need-loop-holds Inv-loop μ-loop
 loop-holds c =
-    (omega arith, (walk-none (partsFrom (X (c .before .before .before .before .before .before .before .before .before .before .before .before .before .before .before .before .before .before .before .before .before .before .before .before .before)) (c .before .before .before .before .before .before .before .before .before .before .before .before .before .before .before .before .before .before .before .before .before .before .before .before .before .args .working .now) (c .before .before .before .before .before .before .before .before .before .before .before .before .before .before .before .before .before .before .before .before .before .before .before .before .before .args .first)), c .before .before .before .before .before .before .before .before .before .before .before .before .before .before .before .before .before .before .before .before .before .before .before .before .before .pre .1 .1))
+    let d = before-loop c in
+    (omega arith, (walk-none (partsFrom (X d) (now (d .args .working)) (d .args .first)), d .pre .1))
 
 add-step-raw : tie.Need-add-step-raw Inv-loop μ-loop
-add-step-raw c =
-    omega (arith, c .before .before .before .before .before .before .before .before .before .before .before .before .before .before .before .before .before .before .before .before .before .before .before .before .before .before .before .pre .0 (c .before .loop .k) (c .loop-test .taken) .few)
+add-step-raw c = omega (arith, begun (c .before) .pre .0 .objects (c .before .loop .k) (c .loop-test .taken) .few)
 
 step-raw-requires : tie.Need-step-raw-requires Inv-loop μ-loop
 unfolding partsOf rawPartsOf
 step-raw-requires c κs =
-    let o = object-now (X (c .before .before .before .before .before .before .before .before .before .before .before .before .before .before .before .before .before .before .before .before .before .before .before .before .before .before .before .before .before .before .before .before .before)) (c .before .before .before .before .before .before .before .loop .inv .1 .0) (c .before .before .before .before .before .before .before .before .before .before .before .before .before .before .before .before .before .before .before .before .before .before .before .before .before .before .before .before .before .before .before .before .before .pre .0 (c .before .before .before .before .before .before .before .loop .k) (c .before .before .before .before .before .before .loop-test .taken)) in
-    (o .few, ((o .kind, o .class, o .count, o .part .start, o .part .body, o .offset), (o .part .slots, (o .part .offsets, (o .part .fields, (o .part .elements, (o .statics, (o .loader, ready-now (X (c .before .before .before .before .before .before .before .before .before .before .before .before .before .before .before .before .before .before .before .before .before .before .before .before .before .before .before .before .before .before .before .before .before)) (c .before .before .before .before .before .before .before .loop .inv .1 .0) (c .before .before .before .before .before .before .before .before .before .before .before .before .before .before .before .before .before .before .before .before .before .before .before .before .before .before .before .before .before .before .before .before .before .pre .1 .0) (c .before .before .before .before .before .before .loop-test .taken) (c .before .before .before .before .before .before .before .loop .inv .1 .1)))))))))
+    let i = c .before .before .before .before .before .before in
+    let l = i .before in
+    let d = begun l in
+    let o = object-now (X d) (l .loop .inv .1 .0) (d .pre .0 .objects (l .loop .k) (i .loop-test .taken)) in
+    (o .few, ((o .kind, o .class, o .count, o .part .start, o .part .body, o .offset), (o .part .slots, (o .part .offsets, (o .part .fields, (o .part .elements, (o .statics, (o .loader, ready-now (X d) (l .loop .inv .1 .0) (d .pre .0 .room) (i .loop-test .taken) (l .loop .inv .1 .1)))))))))
 
 add-k : tie.Need-add-k Inv-loop μ-loop
 add-k c =
-    omega (arith, c .before .before .before .before .before .before .before .before .before .before .before .before .before .before .before .before .before .loop-test .taken, c .before .before .before .before .before .before .before .before .before .before .before .before .before .before .before .before .before .before .before .before .before .before .before .before .before .before .before .before .before .before .before .before .before .before .before .before .before .before .before .before .before .before .before .before .fits .count)
+    let i = c .before .before .before .before .before .before .before .before .before .before .before .before .before .before .before .before .before in
+    omega (arith, i .loop-test .taken, begun (i .before) .fits .count)
 
 loop-less : tie.Need-loop-less Inv-loop μ-loop
 loop-less c =
@@ -47,7 +90,10 @@ loop-less c =
 loop-again : tie.Need-loop-again Inv-loop μ-loop
 unfolding partsOf rawPartsOf
 loop-again c =
-    (omega (arith, c .before .before .before .before .before .before .before .before .before .before .before .before .before .before .before .before .before .loop-test .taken), step-more (X (c .before .before .before .before .before .before .before .before .before .before .before .before .before .before .before .before .before .before .before .before .before .before .before .before .before .before .before .before .before .before .before .before .before .before .before .before .before .before .before .before .before .before .before .before)) (c .before .before .before .before .before .before .before .before .before .before .before .before .before .before .before .before .before .before .loop .inv .1 .0) (c .before .before .before .before .before .before .before .before .before .before .step-raw .ensures .0) (c .before .before .before .before .before .before .before .before .before .before .step-raw .ensures .1) (c .before .before .before .before .before .before .before .before .before .before .before .before .before .before .before .before .before .before .loop .inv .1 .1))
+    let s = c .before .before .before .before .before .before .before .before .before .before in
+    let i = s .before .before .before .before .before .before .before in
+    let l = i .before in
+    (omega (arith, i .loop-test .taken), step-more (X (begun l)) (l .loop .inv .1 .0) (s .step-raw .ensures .0) (s .step-raw .ensures .1) (l .loop .inv .1 .1))
 
 same-length : tie.Need-same-length Inv-loop μ-loop
 same-length c =

@@ -32,12 +32,20 @@ sub-count c =
 
 statics-requires : tie.Need-statics-requires
 statics-requires c κs =
-    let a = c .before .before .before .before .before .before .before .before .before .before .before .before .before .before .before .before .before .before .args in
-    let f = c .before .before .before .before .before .before .before .before .before .before .before .before .before .before .before .before .before .before .pre .0 in
+    let at-index2 = c .before .before .before in
+    let at-index = at-index2 .before .before in
+    let at-if1 = at-index .before .before in
+    let s = at-if1 .before .before .before .before .before .before .before .before .before .before .before in
+    let a = s .args in
+    let f = s .pre .0 in
     let z : 0 < a .mark = omega arith in
-    let e = c .before .before .before .before .before .index .ensures in
-    let g = c .before .before .before .index2 .ensures in
-    ((omega (arith, e, g, f .ordered z, f .names-in z), omega (arith, e, g, f .ordered z, f .types-in z), omega (arith, e, g, f .ordered z, f .values-in z)), rw (statics-some (a .static-starts .now) (a .static-ends .now) (a .static-names .now) (a .static-types .now) (a .static-values .now) (a .mark) (c .before .before .before .before .before .before .before .if1 .left) (c .before .before .before .before .before .index .ensures) (c .before .before .before .index2 .ensures)) (c .before .before .before .before .before .before .before .before .before .before .before .before .before .before .before .before .before .before .pre .1))
+    let e = at-index .index .ensures in
+    let g = at-index2 .index2 .ensures in (
+      (omega (arith, e, g, f .ordered z, f .names-in z), omega (arith, e, g, f .ordered z, f .types-in z), omega (arith, e, g, f .ordered z, f .values-in z)),
+      rw
+          (statics-some (a .static-starts .now) (a .static-ends .now) (a .static-names .now) (a .static-types .now) (a .static-values .now) (a .mark) (at-if1 .if1 .left)
+          (at-index .index .ensures) (at-index2 .index2 .ensures)) (s .pre .1),
+    )
 
 same-length : tie.Need-same-length
 same-length c = same-targets (c .before .before .before .before .before .before .statics .ensures)
@@ -50,8 +58,14 @@ same-length-3 c = same-weak (c .before .before .before .before .before .before .
 
 returns-2 : tie.Need-returns-2
 returns-2 c =
-    let a = c .before .before .before .before .before .before .before .before .before .before .before .before .before .before .before .before .before .before .before .before .before .before .before .before .before .args in
-    rw (← statics-some (a .static-starts .now) (a .static-ends .now) (a .static-names .now) (a .static-types .now) (a .static-values .now) (a .mark) (c .before .before .before .before .before .before .before .before .before .before .before .before .before .before .if1 .left) (c .before .before .before .before .before .before .before .before .before .before .before .before .index .ensures) (c .before .before .before .before .before .before .before .before .before .before .index2 .ensures)) (c .before .before .before .before .before .before .statics .ensures)
+    let at-statics = c .before .before .before .before .before .before in
+    let at-index2 = at-statics .before .before .before .before in
+    let at-index = at-index2 .before .before in
+    let at-if1 = at-index .before .before in
+    let s = at-if1 .before .before .before .before .before .before .before .before .before .before .before in
+    let a = s .args in
+    rw (← statics-some (a .static-starts .now) (a .static-ends .now) (a .static-names .now) (a .static-types .now) (a .static-values .now) (a .mark) (at-if1 .if1 .left)
+    (at-index .index .ensures) (at-index2 .index2 .ensures)) (at-statics .statics .ensures)
 
 pub found-statics-spec : {M : Type 1} → statement M
 found-statics-spec =

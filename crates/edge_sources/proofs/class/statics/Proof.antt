@@ -21,14 +21,26 @@ loop-holds c = (search needs, appended-none)
 append-static-requires : tie.Need-append-static-requires Inv-loop μ-loop
 unfolding staticFrom
 append-static-requires c κs =
-    let a = c .before .before .before .before .before .before .before .before .before .before .before .before .before .args in
-    (search needs, room-part (staticFrom (a .static-names .now) (a .static-types .now) (a .static-values .now) (a .first)) (c .before .before .before .before .loop .k) (c .before .before .before .before .loop .inv .1) (a .count) (c .before .before .before .loop-test .taken) (c .before .before .before .before .before .before .before .before .before .before .before .before .before .pre .1))
+    let i = c .before .before .before in
+    let l = i .before in
+    let s = l .before .before .before .before .before .before .before .before .before in
+    let a = s .args in (
+      search needs,
+      room-part (staticFrom (a .static-names .now) (a .static-types .now) (a .static-values .now) (a .first)) (l .loop .k) (l .loop .inv .1) (a .count)
+          (i .loop-test .taken) (s .pre .1),
+    )
 
 loop-again : tie.Need-loop-again Inv-loop μ-loop
 unfolding staticFrom
 loop-again c =
-    let a = c .before .before .before .before .before .before .before .before .before .before .before .before .before .before .before .before .before .before .before .before .args in
-    (search needs, more-parts (staticFrom (a .static-names .now) (a .static-types .now) (a .static-values .now) (a .first)) (c .before .before .before .before .before .before .before .before .before .before .before .loop .k) (c .before .before .before .before .before .before .before .before .before .before .before .loop .inv .1) (c .before .before .before .before .before .before .append-static .ensures))
+    let at-append-static = c .before .before .before .before .before .before in
+    let l = at-append-static .before .before .before .before .before in
+    let s = l .before .before .before .before .before .before .before .before .before in
+    let a = s .args in (
+      search needs,
+      more-parts (staticFrom (a .static-names .now) (a .static-types .now) (a .static-values .now) (a .first)) (l .loop .k) (l .loop .inv .1)
+          (at-append-static .append-static .ensures),
+    )
 
 same-length : tie.Need-same-length Inv-loop μ-loop
 same-length c = same-targets (c .before .loop .inv .1)

@@ -12,7 +12,8 @@ use Rattle.edge_sources.proofs.copied.elements.Statement.{statement}
 use Rattle.edge_sources.proofs.copied.elements.Tie as tie
 
 abbrev Inv-loop : tie.InvT-loop
-Inv-loop ids codes escape-places escape-ids base start row count hints scale targets₀ labels₀ weak₀ s₀ cursor₀ k₀ targets labels weak s cursor k = (k ≤ count) × Appended ids (tab (copiedElement (idsOf codes escape-places escape-ids base) start) k) s₀ s targets₀ labels₀ weak₀ targets labels weak
+Inv-loop ids codes escape-places escape-ids base start row count hints scale targets₀ labels₀ weak₀ s₀ cursor₀ k₀ targets labels weak s cursor k =
+    (k ≤ count) × Appended ids (tab (copiedElement (idsOf codes escape-places escape-ids base) start) k) s₀ s targets₀ labels₀ weak₀ targets labels weak
 
 abbrev μ-loop : tie.MeasureT-loop
 μ-loop ids codes escape-places escape-ids base start row count hints scale targets₀ labels₀ weak₀ s₀ cursor₀ k₀ targets labels weak s cursor k = count - k
@@ -25,15 +26,29 @@ id-from-requires c κs = c .before .before .before .before .before .before .befo
 
 append-element-requires : tie.Need-append-element-requires Inv-loop μ-loop
 append-element-requires c κs =
-    let a = c .before .before .before .before .before .before .before .before .before .before .before .before .before .before .args in
-    let e = copied-element (idsOf (a .codes .now) (a .escape-places .now) (a .escape-ids .now) (a .base)) (a .start) (c .before .before .before .before .before .loop .k) (c .before .before .before .id-from .ensures) in
-    (search needs, tab-room (copiedElement (idsOf (a .codes .now) (a .escape-places .now) (a .escape-ids .now) (a .base)) (a .start)) (c .before .before .before .before .before .loop .k) (c .before .before .before .before .before .loop .inv .1) e (a .count) (c .before .before .before .before .loop-test .taken) (c .before .before .before .before .before .before .before .before .before .before .before .before .before .before .pre .1 .1))
+    let at-id-from = c .before .before .before in
+    let i = at-id-from .before in
+    let l = i .before in
+    let s = l .before .before .before .before .before .before .before .before .before in
+    let a = s .args in
+    let e = copied-element (idsOf (a .codes .now) (a .escape-places .now) (a .escape-ids .now) (a .base)) (a .start) (l .loop .k) (at-id-from .id-from .ensures) in (
+      search needs,
+      tab-room (copiedElement (idsOf (a .codes .now) (a .escape-places .now) (a .escape-ids .now) (a .base)) (a .start)) (l .loop .k) (l .loop .inv .1) e (a .count)
+          (i .loop-test .taken) (s .pre .1 .1),
+    )
 
 loop-again : tie.Need-loop-again Inv-loop μ-loop
 loop-again c =
-    let a = c .before .before .before .before .before .before .before .before .before .before .before .before .before .before .before .before .before .before .before .before .before .args in
-    let e = copied-element (idsOf (a .codes .now) (a .escape-places .now) (a .escape-ids .now) (a .base)) (a .start) (c .before .before .before .before .before .before .before .before .before .before .before .before .loop .k) (c .before .before .before .before .before .before .before .before .before .before .id-from .ensures) in
-    (search needs, tab-more (copiedElement (idsOf (a .codes .now) (a .escape-places .now) (a .escape-ids .now) (a .base)) (a .start)) (c .before .before .before .before .before .before .before .before .before .before .before .before .loop .k) (c .before .before .before .before .before .before .before .before .before .before .before .before .loop .inv .1) e (c .before .before .before .before .before .before .append-element .ensures))
+    let at-append-element = c .before .before .before .before .before .before in
+    let at-id-from = at-append-element .before .before .before .before in
+    let l = at-id-from .before .before in
+    let s = l .before .before .before .before .before .before .before .before .before in
+    let a = s .args in
+    let e = copied-element (idsOf (a .codes .now) (a .escape-places .now) (a .escape-ids .now) (a .base)) (a .start) (l .loop .k) (at-id-from .id-from .ensures) in (
+      search needs,
+      tab-more (copiedElement (idsOf (a .codes .now) (a .escape-places .now) (a .escape-ids .now) (a .base)) (a .start)) (l .loop .k) (l .loop .inv .1) e
+          (at-append-element .append-element .ensures),
+    )
 
 same-length : tie.Need-same-length Inv-loop μ-loop
 same-length c = same-targets (c .before .loop .inv .1)

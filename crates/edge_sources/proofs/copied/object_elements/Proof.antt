@@ -12,8 +12,16 @@ returns c =
 
 elements-requires : tie.Need-elements-requires
 elements-requires c κs =
-    let a = c .before .before .before .before .before .before .before .before .before .before .before .before .args in
-    (c .before .before .before .before .before .before .before .before .before .before .before .before .pre .0, (c .before .before .before .before .before .before .before .before .before .before .before .before .pre .1 .0 (c .before .before .before .if1 .left), rw (elements-some (idsOf (a .codes .now) (a .escape-places .now) (a .escape-ids .now) (a .base)) (a .start) (a .kind) (a .count) (c .before .before .before .if1 .left)) (c .before .before .before .before .before .before .before .before .before .before .before .before .pre .1 .1)))
+    let at-if1 = c .before .before .before in
+    let s = at-if1 .before .before .before .before .before .before .before .before .before in
+    let a = s .args in (
+      s .pre .0,
+      (
+        s .pre .1 .0 (at-if1 .if1 .left),
+        rw (elements-some (idsOf (a .codes .now) (a .escape-places .now) (a .escape-ids .now) (a .base)) (a .start) (a .kind) (a .count)
+            (at-if1 .if1 .left)) (s .pre .1 .1),
+      ),
+    )
 
 same-length : tie.Need-same-length
 same-length c = same-targets (c .before .before .before .before .before .before .elements .ensures)
@@ -26,8 +34,12 @@ same-length-3 c = same-weak (c .before .before .before .before .before .before .
 
 returns-2 : tie.Need-returns-2
 returns-2 c =
-    let a = c .before .before .before .before .before .before .before .before .before .before .before .before .before .before .before .before .before .before .before .args in
-    rw (← elements-some (idsOf (a .codes .now) (a .escape-places .now) (a .escape-ids .now) (a .base)) (a .start) (a .kind) (a .count) (c .before .before .before .before .before .before .before .before .before .before .if1 .left)) (c .before .before .before .before .before .before .elements .ensures)
+    let at-elements = c .before .before .before .before .before .before in
+    let at-if1 = at-elements .before .before .before .before in
+    let s = at-if1 .before .before .before .before .before .before .before .before .before in
+    let a = s .args in
+    rw (← elements-some (idsOf (a .codes .now) (a .escape-places .now) (a .escape-ids .now) (a .base)) (a .start) (a .kind) (a .count) (at-if1 .if1 .left))
+    (at-elements .elements .ensures)
 
 pub object-elements-spec : {M : Type 1} → statement M
 object-elements-spec =

@@ -12,7 +12,9 @@ use Rattle.edge_sources.proofs.copied.slots.Statement.{statement}
 use Rattle.edge_sources.proofs.copied.slots.Tie as tie
 
 abbrev Inv-loop : tie.InvT-loop
-Inv-loop ids codes escape-places escape-ids base start row slot-labels slot-weak keeps first count hints scale targets₀ labels₀ weak₀ s₀ cursor₀ k₀ targets labels weak s cursor k = (k ≤ count) × Appended ids (tab (copiedSlot (idsOf codes escape-places escape-ids base) start slot-labels slot-weak keeps first) k) s₀ s targets₀ labels₀ weak₀ targets labels weak
+Inv-loop ids codes escape-places escape-ids base start row slot-labels slot-weak keeps first count hints scale targets₀ labels₀ weak₀ s₀ cursor₀ k₀ targets labels weak s cursor k =
+    (k ≤ count) × Appended ids (tab (copiedSlot (idsOf codes escape-places escape-ids base) start slot-labels slot-weak keeps first) k) s₀ s targets₀ labels₀ weak₀
+    targets labels weak
 
 abbrev μ-loop : tie.MeasureT-loop
 μ-loop ids codes escape-places escape-ids base start row slot-labels slot-weak keeps first count hints scale targets₀ labels₀ weak₀ s₀ cursor₀ k₀ targets labels weak s cursor k = count - k
@@ -25,18 +27,38 @@ id-from-requires c κs = c .before .before .before .before .before .before .befo
 
 append-slot-requires : tie.Need-append-slot-requires Inv-loop μ-loop
 append-slot-requires c κs =
-    let a = c .before .before .before .before .before .before .before .before .before .before .before .before .before .before .before .before .args in
-    let e = copied-slot (idsOf (a .codes .now) (a .escape-places .now) (a .escape-ids .now) (a .base)) (a .start) (c .before .before .before .before .before .loop .k) (c .before .before .before .id-from .ensures) (a .slot-labels .now) (a .slot-weak .now) (a .keeps) (a .first) in
-    ((omega (arith, c .before .before .before .before .before .before .before .before .before .before .before .before .before .before .before .before .pre .1 .0 .0, c .before .before .before .before .loop-test .taken), omega (arith, c .before .before .before .before .before .before .before .before .before .before .before .before .before .before .before .before .pre .1 .0 .1, c .before .before .before .before .loop-test .taken)), tab-room (copiedSlot (idsOf (a .codes .now) (a .escape-places .now) (a .escape-ids .now) (a .base)) (a .start) (a .slot-labels .now) (a .slot-weak .now) (a .keeps) (a .first)) (c .before .before .before .before .before .loop .k) (c .before .before .before .before .before .loop .inv .1) e (a .count) (c .before .before .before .before .loop-test .taken) (c .before .before .before .before .before .before .before .before .before .before .before .before .before .before .before .before .pre .1 .1))
+    let at-id-from = c .before .before .before in
+    let i = at-id-from .before in
+    let l = i .before in
+    let s = l .before .before .before .before .before .before .before .before .before .before .before in
+    let a = s .args in
+    let e = copied-slot (idsOf (a .codes .now) (a .escape-places .now) (a .escape-ids .now) (a .base)) (a .start) (l .loop .k) (at-id-from .id-from .ensures) (a .slot-labels .now)
+    (a .slot-weak .now) (a .keeps) (a .first) in (
+      (omega (arith, s .pre .1 .0 .0, i .loop-test .taken), omega (arith, s .pre .1 .0 .1, i .loop-test .taken)),
+      tab-room
+          (copiedSlot (idsOf (a .codes .now) (a .escape-places .now) (a .escape-ids .now) (a .base)) (a .start) (a .slot-labels .now) (a .slot-weak .now) (a .keeps) (a .first))
+          (l .loop .k) (l .loop .inv .1) e (a .count) (i .loop-test .taken) (s .pre .1 .1),
+    )
 
 add-k : tie.Need-add-k Inv-loop μ-loop
-add-k c = omega (arith, c .before .before .before .before .before .before .before .before .before .before .before .loop-test .taken, c .before .before .before .before .before .before .before .before .before .before .before .before .before .before .before .before .before .before .before .before .before .before .before .fits .count)
+add-k c =
+    let i = c .before .before .before .before .before .before .before .before .before .before .before in
+    let s = i .before .before .before .before .before .before .before .before .before .before .before .before in
+    omega (arith, i .loop-test .taken, s .fits .count)
 
 loop-again : tie.Need-loop-again Inv-loop μ-loop
 loop-again c =
-    let a = c .before .before .before .before .before .before .before .before .before .before .before .before .before .before .before .before .before .before .before .before .before .before .before .args in
-    let e = copied-slot (idsOf (a .codes .now) (a .escape-places .now) (a .escape-ids .now) (a .base)) (a .start) (c .before .before .before .before .before .before .before .before .before .before .before .before .loop .k) (c .before .before .before .before .before .before .before .before .before .before .id-from .ensures) (a .slot-labels .now) (a .slot-weak .now) (a .keeps) (a .first) in
-    (search needs, tab-more (copiedSlot (idsOf (a .codes .now) (a .escape-places .now) (a .escape-ids .now) (a .base)) (a .start) (a .slot-labels .now) (a .slot-weak .now) (a .keeps) (a .first)) (c .before .before .before .before .before .before .before .before .before .before .before .before .loop .k) (c .before .before .before .before .before .before .before .before .before .before .before .before .loop .inv .1) e (c .before .before .before .before .before .before .append-slot .ensures))
+    let at-append-slot = c .before .before .before .before .before .before in
+    let at-id-from = at-append-slot .before .before .before .before in
+    let l = at-id-from .before .before in
+    let s = l .before .before .before .before .before .before .before .before .before .before .before in
+    let a = s .args in
+    let e = copied-slot (idsOf (a .codes .now) (a .escape-places .now) (a .escape-ids .now) (a .base)) (a .start) (l .loop .k) (at-id-from .id-from .ensures) (a .slot-labels .now)
+    (a .slot-weak .now) (a .keeps) (a .first) in (
+      search needs,
+      tab-more (copiedSlot (idsOf (a .codes .now) (a .escape-places .now) (a .escape-ids .now) (a .base)) (a .start) (a .slot-labels .now) (a .slot-weak .now)
+          (a .keeps) (a .first)) (l .loop .k) (l .loop .inv .1) e (at-append-slot .append-slot .ensures),
+    )
 
 same-length : tie.Need-same-length Inv-loop μ-loop
 same-length c = same-targets (c .before .loop .inv .1)

@@ -24,23 +24,42 @@ loop-holds c = (search needs, omega arith, tab-none _)
 
 id-at-bytes-requires : tie.Need-id-at-bytes-requires Inv-loop μ-loop
 id-at-bytes-requires c κs =
-    (omega (arith, element-ends (c .before .loop .k) (c .before .before .before .before .before .before .before .before .args .count) (c .before .before .before .before .before .before .before .before .args .size) (c .loop-test .taken), c .before .loop .inv .1, c .before .before .before .before .before .before .before .before .pre .0 .2), c .before .before .before .before .before .before .before .before .pre .0 .1)
+    let s = c .before .before .before .before .before .before .before .before in
+    (omega (arith, element-ends (c .before .loop .k) (s .args .count) (s .args .size) (c .loop-test .taken), c .before .loop .inv .1, s .pre .0 .2), s .pre .0 .1)
 
 append-element-requires : tie.Need-append-element-requires Inv-loop μ-loop
 append-element-requires c κs =
-    let a = c .before .before .before .before .before .before .before .before .before .before .before .before .args in
-    let e = raw-element (a .bytes .now) (a .size) (a .start) (c .before .before .before .before .before .loop .k) (c .before .before .before .before .before .loop .inv .1) (c .before .before .before .id-at-bytes .ensures) in
-    (omega (arith, c .before .before .before .before .before .before .before .before .before .before .before .before .pre .0 .0, c .before .before .before .before .loop-test .taken), tab-room (rawElement (a .bytes .now) (a .size) (a .start)) (c .before .before .before .before .before .loop .k) (c .before .before .before .before .before .loop .inv .2) e (a .count) (c .before .before .before .before .loop-test .taken) (c .before .before .before .before .before .before .before .before .before .before .before .before .pre .1))
+    let at-id-at-bytes = c .before .before .before in
+    let i = at-id-at-bytes .before in
+    let l = i .before in
+    let s = l .before .before .before .before .before .before .before in
+    let a = s .args in
+    let e = raw-element (a .bytes .now) (a .size) (a .start) (l .loop .k) (l .loop .inv .1) (at-id-at-bytes .id-at-bytes .ensures) in (
+      omega (arith, s .pre .0 .0, i .loop-test .taken),
+      tab-room (rawElement (a .bytes .now) (a .size) (a .start)) (l .loop .k) (l .loop .inv .2) e (a .count) (i .loop-test .taken)
+          (s .pre .1),
+    )
 
 add-at : tie.Need-add-at Inv-loop μ-loop
 add-at c =
-    omega (arith, element-ends (c .before .before .before .before .before .before .before .before .before .before .before .before .loop .k) (c .before .before .before .before .before .before .before .before .before .before .before .before .before .before .before .before .before .before .before .args .count) (c .before .before .before .before .before .before .before .before .before .before .before .before .before .before .before .before .before .before .before .args .size) (c .before .before .before .before .before .before .before .before .before .before .before .loop-test .taken), c .before .before .before .before .before .before .before .before .before .before .before .before .loop .inv .1, c .before .before .before .before .before .before .before .before .before .before .before .before .before .before .before .before .before .before .before .pre .0 .2)
+    let i = c .before .before .before .before .before .before .before .before .before .before .before in
+    let l = i .before in
+    let s = l .before .before .before .before .before .before .before in
+    omega (arith, element-ends (l .loop .k) (s .args .count) (s .args .size) (i .loop-test .taken), l .loop .inv .1, s .pre .0 .2)
 
 loop-again : tie.Need-loop-again Inv-loop μ-loop
 loop-again c =
-    let a = c .before .before .before .before .before .before .before .before .before .before .before .before .before .before .before .before .before .before .before .args in
-    let e = raw-element (a .bytes .now) (a .size) (a .start) (c .before .before .before .before .before .before .before .before .before .before .before .before .loop .k) (c .before .before .before .before .before .before .before .before .before .before .before .before .loop .inv .1) (c .before .before .before .before .before .before .before .before .before .before .id-at-bytes .ensures) in
-    (search needs, rw (add-one (c .before .before .before .before .before .before .before .before .before .before .before .before .loop .k)) (omega (arith, c .before .before .before .before .before .before .before .before .before .before .before .before .loop .inv .1, suc-mul (c .before .before .before .before .before .before .before .before .before .before .before .before .loop .k) (a .size))), tab-more (rawElement (a .bytes .now) (a .size) (a .start)) (c .before .before .before .before .before .before .before .before .before .before .before .before .loop .k) (c .before .before .before .before .before .before .before .before .before .before .before .before .loop .inv .2) e (c .before .before .before .before .before .before .append-element .ensures))
+    let at-append-element = c .before .before .before .before .before .before in
+    let at-id-at-bytes = at-append-element .before .before .before .before in
+    let l = at-id-at-bytes .before .before in
+    let s = l .before .before .before .before .before .before .before in
+    let a = s .args in
+    let e = raw-element (a .bytes .now) (a .size) (a .start) (l .loop .k) (l .loop .inv .1) (at-id-at-bytes .id-at-bytes .ensures) in (
+      search needs,
+      rw (add-one (l .loop .k)) (omega (arith, l .loop .inv .1, suc-mul (l .loop .k) (a .size))),
+      tab-more (rawElement (a .bytes .now) (a .size) (a .start))
+          (l .loop .k) (l .loop .inv .2) e (at-append-element .append-element .ensures),
+    )
 
 same-length : tie.Need-same-length Inv-loop μ-loop
 same-length c = same-targets (c .before .loop .inv .2)

@@ -29,9 +29,15 @@ add-high c =
 
 loop-again : tie.Need-loop-again Inv-loop μ-loop
 loop-again c =
-    let a = c .before .before .before .before .before .args in
-    let w = c .wide .ensures in
-    (search needs, high-more (c .before .before .before .loop .k) (c .before .before .before .loop .high) (c .wide .result) (c .before .before .before .loop .inv .1) (w .1), ap (λ (b : ℕ). c .before .before .before .loop .high * 256 + b) (w .0) ∙ big-more (a .bytes .now) (a .at) (c .before .before .before .loop .k) (omega arith) (c .before .before .before .loop .inv .2))
+    let l = c .before .before .before in
+    let s = l .before .before in
+    let a = s .args in
+    let w = c .wide .ensures in (
+      search needs,
+      high-more (l .loop .k) (l .loop .high) (c .wide .result) (l .loop .inv .1) (w .1),
+      ap (λ (b : ℕ). l .loop .high * 256 + b) (w .0) ∙ big-more (a .bytes .now)
+          (a .at) (l .loop .k) (omega arith) (l .loop .inv .2),
+    )
 
 returns : tie.Need-returns Inv-loop μ-loop
 returns c =

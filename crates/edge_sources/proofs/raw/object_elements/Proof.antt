@@ -11,8 +11,10 @@ returns c =
 
 elements-requires : tie.Need-elements-requires
 elements-requires c κs =
-    let a = c .before .before .before .before .before .before .before .before .before .before .args in
-    (c .before .before .before .before .before .before .before .before .before .before .pre .0 (c .before .before .before .if1 .left), rw (some-elements (a .bytes .now) (a .size) (a .start) (a .kind) (a .count) (c .before .before .before .if1 .left)) (c .before .before .before .before .before .before .before .before .before .before .pre .1))
+    let at-if1 = c .before .before .before in
+    let s = at-if1 .before .before .before .before .before .before .before in
+    let a = s .args in
+    (s .pre .0 (at-if1 .if1 .left), rw (some-elements (a .bytes .now) (a .size) (a .start) (a .kind) (a .count) (at-if1 .if1 .left)) (s .pre .1))
 
 same-length : tie.Need-same-length
 same-length c = same-targets (c .before .before .before .before .before .before .elements .ensures)

@@ -19,8 +19,12 @@ abbrev μ-loop : tie.MeasureT-loop
 μ-loop ids bytes size start body slot-offsets slot-labels slot-weak keeps first count hints scale targets₀ labels₀ weak₀ s₀ k₀ targets labels weak s k = count - k
 
 -- slot k ends within the body
-ends : (c : tie.Else1 Inv-loop μ-loop) → c .before .before .before .before .before .before .before .before .before .before .before .before .before .before .args .slot-offsets .now ! (c .before .before .before .before .before .before .before .before .before .before .before .before .before .before .args .first + c .before .before .before .before .loop .k) + c .before .before .before .before .before .before .before .before .before .before .before .before .before .before .args .size ≤ c .before .before .before .before .before .before .before .before .before .before .before .before .before .before .args .body
-ends c = omega (arith, c .before .spot-of .ensures .0, c .if1 .left)
+ends : (c : tie.Else1 Inv-loop μ-loop) → c .before .before .before .before .before .before .before .before .before .before .before .before .before
+    .before .args .slot-offsets .now ! (c .before .before .before .before .before .before .before .before .before .before .before .before .before .before .args .first + c .before
+    .before .before .before .loop .k) + c .before .before .before .before .before .before .before .before .before .before .before .before .before .before .args .size ≤ c .before
+    .before .before .before .before .before .before .before .before .before .before .before .before .before .args .body
+ends c =
+    omega (arith, c .before .spot-of .ensures .0, c .if1 .left)
 
 loop-holds : tie.Need-loop-holds Inv-loop μ-loop
 loop-holds c =
@@ -42,9 +46,12 @@ same-length-3 c = same-weak (c .before .before .before .before .loop .inv .2)
 
 returns : tie.Need-returns Inv-loop μ-loop
 returns c =
-    let a = c .before .before .before .before .before .before .before .before .before .before .before .before .before .before .args in
-    let h : a .body < a .slot-offsets .now ! (a .first + c .before .before .before .before .loop .k) + a .size = omega (arith, c .before .spot-of .ensures .0, c .if1 .taken) in
-    tab-end (rawSlot (a .bytes .now) (a .size) (a .start) (a .slot-offsets .now) (a .slot-labels .now) (a .slot-weak .now) (a .keeps) (a .first)) (c .before .before .before .before .loop .k) _ (sym (read-stop (a .slot-offsets .now) (a .size) (a .body) (a .first) (c .before .before .before .before .loop .k) (c .before .before .before .before .loop .inv .1) h (a .count) (c .before .before .before .before .loop .inv .0))) (c .before .before .before .before .loop .inv .2)
+    let l = c .before .before .before .before in
+    let s = l .before .before .before .before .before .before .before .before .before .before in
+    let a = s .args in
+    let h : a .body < a .slot-offsets .now ! (a .first + l .loop .k) + a .size = omega (arith, c .before .spot-of .ensures .0, c .if1 .taken) in
+    tab-end (rawSlot (a .bytes .now) (a .size) (a .start) (a .slot-offsets .now) (a .slot-labels .now) (a .slot-weak .now) (a .keeps) (a .first)) (l .loop .k) _
+    (sym (read-stop (a .slot-offsets .now) (a .size) (a .body) (a .first) (l .loop .k) (l .loop .inv .1) h (a .count) (l .loop .inv .0))) (l .loop .inv .2)
 
 add-id-at-bytes : tie.Need-add-id-at-bytes Inv-loop μ-loop
 add-id-at-bytes c =
@@ -56,18 +63,44 @@ id-at-bytes-requires c κs =
 
 append-slot-requires : tie.Need-append-slot-requires Inv-loop μ-loop
 append-slot-requires c κs =
-    let a = c .before .before .before .before .before .before .before .before .before .before .before .before .before .before .before .before .before .before .args in
-    let e = raw-slot (a .bytes .now) (a .size) (a .start) (a .slot-offsets .now) (a .slot-labels .now) (a .slot-weak .now) (a .keeps) (a .first) (c .before .before .before .before .before .before .before .before .loop .k) (c .before .before .before .before .before .spot-of .ensures .0) (c .before .before .before .id-at-bytes .ensures) in
-    ((omega (arith, c .before .before .before .before .before .before .before .before .before .before .before .before .before .before .before .before .before .before .pre .0 .1, c .before .before .before .before .before .before .before .loop-test .taken), omega (arith, c .before .before .before .before .before .before .before .before .before .before .before .before .before .before .before .before .before .before .pre .0 .2, c .before .before .before .before .before .before .before .loop-test .taken)), tab-room (rawSlot (a .bytes .now) (a .size) (a .start) (a .slot-offsets .now) (a .slot-labels .now) (a .slot-weak .now) (a .keeps) (a .first)) (c .before .before .before .before .before .before .before .before .loop .k) (c .before .before .before .before .before .before .before .before .loop .inv .2) e _ (read-more (a .slot-offsets .now) (a .size) (a .body) (a .first) (c .before .before .before .before .before .before .before .before .loop .k) (c .before .before .before .before .before .before .before .before .loop .inv .1) (ends (c .before .before .before .before)) (a .count) (c .before .before .before .before .before .before .before .loop-test .taken)) (c .before .before .before .before .before .before .before .before .before .before .before .before .before .before .before .before .before .before .pre .1 .1))
+    let at-id-at-bytes = c .before .before .before in
+    let p = at-id-at-bytes .before in
+    let at-spot-of = p .before in
+    let i = at-spot-of .before .before in
+    let l = i .before in
+    let s = l .before .before .before .before .before .before .before .before .before .before in
+    let a = s .args in
+    let e = raw-slot (a .bytes .now) (a .size) (a .start) (a .slot-offsets .now) (a .slot-labels .now) (a .slot-weak .now) (a .keeps) (a .first) (l .loop .k)
+    (at-spot-of .spot-of .ensures .0) (at-id-at-bytes .id-at-bytes .ensures) in (
+      (omega (arith, s .pre .0 .1, i .loop-test .taken), omega (arith, s .pre .0 .2, i .loop-test .taken)),
+      tab-room
+          (rawSlot (a .bytes .now) (a .size) (a .start) (a .slot-offsets .now) (a .slot-labels .now) (a .slot-weak .now) (a .keeps) (a .first)) (l .loop .k) (l .loop .inv .2) e _
+          (read-more (a .slot-offsets .now) (a .size) (a .body) (a .first) (l .loop .k) (l .loop .inv .1) (ends p) (a .count) (i .loop-test .taken)) (s .pre .1 .1),
+    )
 
 add-k : tie.Need-add-k Inv-loop μ-loop
-add-k c = omega (arith, c .before .before .before .before .before .before .before .before .before .before .before .before .before .before .loop-test .taken, c .before .before .before .before .before .before .before .before .before .before .before .before .before .before .before .before .before .before .before .before .before .before .before .before .before .fits .count)
+add-k c =
+    let i = c .before .before .before .before .before .before .before .before .before .before .before .before .before .before in
+    let s = i .before .before .before .before .before .before .before .before .before .before .before in
+    omega (arith, i .loop-test .taken, s .fits .count)
 
 loop-again : tie.Need-loop-again Inv-loop μ-loop
 loop-again c =
-    let a = c .before .before .before .before .before .before .before .before .before .before .before .before .before .before .before .before .before .before .before .before .before .before .before .before .before .args in
-    let e = raw-slot (a .bytes .now) (a .size) (a .start) (a .slot-offsets .now) (a .slot-labels .now) (a .slot-weak .now) (a .keeps) (a .first) (c .before .before .before .before .before .before .before .before .before .before .before .before .before .before .before .loop .k) (c .before .before .before .before .before .before .before .before .before .before .before .before .spot-of .ensures .0) (c .before .before .before .before .before .before .before .before .before .before .id-at-bytes .ensures) in
-    (search needs, read-next (a .slot-offsets .now) (a .size) (a .body) (a .first) (c .before .before .before .before .before .before .before .before .before .before .before .before .before .before .before .loop .k) (c .before .before .before .before .before .before .before .before .before .before .before .before .before .before .before .loop .inv .1) (ends (c .before .before .before .before .before .before .before .before .before .before .before)), tab-more (rawSlot (a .bytes .now) (a .size) (a .start) (a .slot-offsets .now) (a .slot-labels .now) (a .slot-weak .now) (a .keeps) (a .first)) (c .before .before .before .before .before .before .before .before .before .before .before .before .before .before .before .loop .k) (c .before .before .before .before .before .before .before .before .before .before .before .before .before .before .before .loop .inv .2) e (c .before .before .before .before .before .before .append-slot .ensures))
+    let at-append-slot = c .before .before .before .before .before .before in
+    let at-id-at-bytes = at-append-slot .before .before .before .before in
+    let p = at-id-at-bytes .before in
+    let at-spot-of = p .before in
+    let l = at-spot-of .before .before .before in
+    let s = l .before .before .before .before .before .before .before .before .before .before in
+    let a = s .args in
+    let e = raw-slot (a .bytes .now) (a .size) (a .start) (a .slot-offsets .now) (a .slot-labels .now) (a .slot-weak .now) (a .keeps) (a .first) (l .loop .k)
+    (at-spot-of .spot-of .ensures .0) (at-id-at-bytes .id-at-bytes .ensures) in (
+      search needs,
+      read-next (a .slot-offsets .now) (a .size) (a .body) (a .first) (l .loop .k) (l .loop .inv .1) (ends p),
+      tab-more
+          (rawSlot (a .bytes .now) (a .size) (a .start) (a .slot-offsets .now) (a .slot-labels .now) (a .slot-weak .now) (a .keeps) (a .first)) (l .loop .k) (l .loop .inv .2) e
+          (at-append-slot .append-slot .ensures),
+    )
 
 same-length-4 : tie.Need-same-length-4 Inv-loop μ-loop
 same-length-4 c = same-targets (c .before .loop .inv .2)
@@ -80,9 +113,11 @@ same-length-6 c = same-weak (c .before .loop .inv .2)
 
 returns-2 : tie.Need-returns-2 Inv-loop μ-loop
 returns-2 c =
-    let a = c .before .before .before .before .before .before .before .before .before .before .before .args in
+    let s = c .before .before .before .before .before .before .before .before .before .before .before in
+    let a = s .args in
     let e : c .before .loop .k ≡ a .count = omega arith in
-    tab-end (rawSlot (a .bytes .now) (a .size) (a .start) (a .slot-offsets .now) (a .slot-labels .now) (a .slot-weak .now) (a .keeps) (a .first)) (c .before .loop .k) _ (sym (c .before .loop .inv .1) ∙ ap (slotsRead (a .slot-offsets .now) (a .size) (a .body) (a .first)) e) (c .before .loop .inv .2)
+    tab-end (rawSlot (a .bytes .now) (a .size) (a .start) (a .slot-offsets .now) (a .slot-labels .now) (a .slot-weak .now) (a .keeps) (a .first)) (c .before .loop .k) _
+    (sym (c .before .loop .inv .1) ∙ ap (slotsRead (a .slot-offsets .now) (a .size) (a .body) (a .first)) e) (c .before .loop .inv .2)
 
 pub slots-spec : {M : Type 1} → statement M
 slots-spec =

@@ -58,13 +58,19 @@ code-object-requires c κs = (c .before .before .before .before .before .before 
 
 loop-again : tie.Need-loop-again Inv-loop μ-loop
 loop-again c =
-    let a = c .before .before .before .before .before .before .before .before .before .before .before .before .before .args in
-    let o = c .before .before .before .before .before .before .before .before .loop .o in
+    let p = c .before .before .before .before .before .before .before in
+    let l = p .before in
+    let s = l .before .before .before .before .before in
+    let a = s .args in
+    let o = l .loop .o in
     let offsets = a .offsets .now in
     let ls = part (a .labels .now) (offsets ! o) (offsets ! (o + 1)) in
-    let n = within (c .before .before .before .before .before .before .before) in
-    let e = codes-length (a .names) (a .table .now) ls ∙ part-length (a .labels .now) (offsets ! o) (offsets ! (o + 1)) (n .1) in
-    (search needs, rw (all-more (a .names) (a .table .now) offsets (a .labels .now) o) (written-part (codesBy (a .names) (a .table .now) ls) (offsets ! (o + 1)) (c .before .before .before .before .before .before .before .before .loop .inv .1) (n .0) (omega arith) e (c .before .before .code-object .ensures)))
+    let n = within p in
+    let e = codes-length (a .names) (a .table .now) ls ∙ part-length (a .labels .now) (offsets ! o) (offsets ! (o + 1)) (n .1) in (
+      search needs,
+      rw (all-more (a .names) (a .table .now) offsets (a .labels .now) o)
+          (written-part (codesBy (a .names) (a .table .now) ls) (offsets ! (o + 1)) (l .loop .inv .1) (n .0) (omega arith) e (c .before .before .code-object .ensures)),
+    )
 
 returns : tie.Need-returns Inv-loop μ-loop
 returns c =

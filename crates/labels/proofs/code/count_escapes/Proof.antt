@@ -21,15 +21,26 @@ abbrev μ-loop : tie.MeasureT-loop
 within : (c : tie.In-loop Inv-loop μ-loop) → let a = c .before .before .before .before .before .args in let o = c .before .loop .o in (a .offsets .now ! o ≤ a .offsets .now ! (o + 1)) × (a .offsets .now ! (o + 1) ≤ length (a .labels .now))
 within c = rw (add-one (c .before .loop .o)) (laid-within (c .before .before .before .before .before .pre .1) (c .before .loop .o) (omega arith))
 
+abbrev from-count-object : tie.After-count-object Inv-loop μ-loop → tie.Start Inv-loop μ-loop
+from-count-object c =
+    c .before .before .before .before .before .before .before .before .before
+
 -- the rows with the next object's are the escapes of one object more
-more : (c : tie.After-count-object Inv-loop μ-loop) → let a = c .before .before .before .before .before .before .before .before .before .args in c .before .before .before .before .before .loop .rows + c .count-object .result ≡ escapesIn (allBy (a .names) (a .table .now) (a .offsets .now) (a .labels .now) (c .before .before .before .before .before .loop .o + 1))
+more : (c : tie.After-count-object Inv-loop μ-loop) → let a = from-count-object c .args in c .before .before .before .before .before .loop .rows + c .count-object .result
+    ≡ escapesIn (allBy (a .names) (a .table .now) (a .offsets .now) (a .labels .now) (c .before .before .before .before .before .loop .o + 1))
 more c =
-    let a = c .before .before .before .before .before .before .before .before .before .args in
-    let o = c .before .before .before .before .before .loop .o in
+    let l = c .before .before .before .before .before in
+    let a = from-count-object c .args in
+    let o = l .loop .o in
     let offsets = a .offsets .now in
     let labels = a .labels .now in
     rw (all-more (a .names) (a .table .now) offsets labels o)
-    (omega (arith, escapes-append (allBy (a .names) (a .table .now) offsets labels o) (codesBy (a .names) (a .table .now) (part labels (offsets ! o) (offsets ! (o + 1)))), c .count-object .ensures, c .before .before .before .before .before .loop .inv .1))
+    (omega (
+      arith,
+      escapes-append (allBy (a .names) (a .table .now) offsets labels o) (codesBy (a .names) (a .table .now) (part labels (offsets ! o) (offsets ! (o + 1)))),
+      c .count-object .ensures,
+      l .loop .inv .1,
+    ))
 
 loop-holds : tie.Need-loop-holds Inv-loop μ-loop
 unfolding allBy escapesIn

@@ -26,11 +26,14 @@ unfolding tab escapesIn
 loop-holds c = (search needs, refl, search needs, refl)
 
 -- the rows with the next code's are the escapes among one code more
-more : (c : tie.After-rows-of Inv-loop μ-loop) → let a = c .before .before .before .before .before .before .before .args in let g = codeIn (a .names) (a .table .now) (a .labels .now) in c .before .before .before .before .loop .rows + c .rows-of .result ≡ escapesIn (tab g (c .before .before .before .before .loop .i + 1))
+more : (c : tie.After-rows-of Inv-loop μ-loop) → let a = c .before .before .before .before .before .before .before .args in let g = codeIn (a .names) (a .table .now)
+    (a .labels .now) in c .before .before .before .before .loop .rows + c .rows-of .result ≡ escapesIn (tab g (c .before .before .before .before .loop .i + 1))
 more c =
-    let a = c .before .before .before .before .before .before .before .args in
-    let w = c .before .before .before .before .loop .inv in
-    let i = c .before .before .before .before .loop .i in
+    let l = c .before .before .before .before in
+    let s = l .before .before .before in
+    let a = s .args in
+    let w = l .loop .inv in
+    let i = l .loop .i in
     let ls = a .labels .now in
     let g = codeIn (a .names) (a .table .now) ls in
     let e : c .before .code-of .result ≡ g i = c .before .code-of .ensures ∙ ap (λ (n : ℕ). codeBy (a .names) (a .table .now) n (ls ! i)) (w .1) in

@@ -6,13 +6,22 @@ use Rattle.labels.proofs.code.write_codes.Tie as tie
 
 write-escapes-requires : tie.Need-write-escapes-requires
 write-escapes-requires c κs =
-    let a = c .before .before .before .before .before .before .before .before .before .before .before .before .before .args in
-    (search needs, room-escapes (a .names) (a .table .now) (a .offsets .now) (a .labels .now) (a .codes .now) _ (c .before .before .before .before .before .before .before .before .before .before .before .before .before .pre .0 .1) (c .before .before .before .before .before .code-objects .ensures) _ _ (c .before .before .before .before .before .before .before .before .before .before .before .before .before .pre .1))
+    let at-code-objects = c .before .before .before .before .before in
+    let s = at-code-objects .before .before .before .before .before .before .before .before in
+    let a = s .args in (
+      search needs,
+      room-escapes (a .names) (a .table .now) (a .offsets .now) (a .labels .now) (a .codes .now) _ (s .pre .0 .1) (at-code-objects .code-objects .ensures) _ _
+          (s .pre .1),
+    )
 
 returns : tie.Need-returns
 returns c =
-    let a = c .before .before .before .before .before .before .before .before .before .before .before .before .before .before .before .before .before .before .args in
-    codes-laid (a .names) (a .table .now) (a .offsets .now) (a .labels .now) (a .codes .now) _ (c .before .before .before .before .before .before .before .before .before .before .before .before .before .before .before .before .before .before .pre .0 .1) (c .before .before .before .before .before .before .before .before .before .before .code-objects .ensures) _ _ _ _ _ (c .before .before .before .before .before .before .before .before .before .before .before .before .before .before .before .before .before .before .pre .0 .0 .few) (c .before .before .before .before .write-escapes .ensures)
+    let at-write-escapes = c .before .before .before .before in
+    let at-code-objects = at-write-escapes .before .before .before .before .before .before in
+    let s = at-code-objects .before .before .before .before .before .before .before .before in
+    let a = s .args in
+    codes-laid (a .names) (a .table .now) (a .offsets .now) (a .labels .now) (a .codes .now) _ (s .pre .0 .1) (at-code-objects .code-objects .ensures) _ _ _ _ _ (s .pre .0 .0 .few)
+    (at-write-escapes .write-escapes .ensures)
 
 pub write-codes-spec : {M : Type 1} → statement M
 write-codes-spec =

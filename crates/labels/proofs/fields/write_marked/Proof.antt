@@ -23,9 +23,18 @@ abbrev μ-loop : tie.MeasureT-loop
 row : (c : tie.Then1 Inv-loop μ-loop) → c .before .before .before .loop .k < length (c .before .before .before .before .before .before .args .fields .now)
 unfolding marked
 row c =
-    let a = c .before .before .before .before .before .before .args in
+    let l = c .before .before .before in
+    let s = l .before .before .before in
+    let a = s .args in
     let t = isMarked (a .table .now) in
-    omega (arith, c .before .before .before .before .before .before .pre .1, c .before .before .before .loop .inv .1 .used, length-map (places t (c .before .before .before .loop .i)) (labelAt (a .names)), length-map (places t (a .names + 1)) (labelAt (a .names)), places-row t (c .before .before .before .loop .i) (a .names + 1) (eq-eqb _ _ (c .if1 .taken)) (omega arith) .0)
+    omega (
+      arith,
+      s .pre .1,
+      l .loop .inv .1 .used,
+      length-map (places t (l .loop .i)) (labelAt (a .names)),
+      length-map (places t (a .names + 1)) (labelAt (a .names)),
+      places-row t (l .loop .i) (a .names + 1) (eq-eqb _ _ (c .if1 .taken)) (omega arith) .0,
+    )
 
 loop-holds : tie.Need-loop-holds Inv-loop μ-loop
 unfolding places

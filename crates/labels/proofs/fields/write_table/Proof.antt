@@ -33,11 +33,16 @@ slice-write-table c =
 
 loop-again : tie.Need-loop-again Inv-loop μ-loop
 loop-again c =
-    let a = c .before .before .before .before .before .before .before .before .before .before .args in
-    let k = c .before .before .before .loop .k in
+    let l = c .before .before .before in
+    let s = l .before .before .before .before .before .before .before in
+    let a = s .args in
+    let k = l .loop .k in
     let e : k ≡ suc (k - 1) = omega arith in
-    let w = rw e at (c .before .before .before .loop .inv .1) in
-    (search needs, rw (c .slot-of .ensures) (tabling-field (a .names) (a .fields .now) _ (omega arith) _ (k - 1) (c .before .before .before .before .before .before .before .before .before .before .pre .0 .0 .few) (omega arith) (c .before .before .before .before .before .before .before .before .before .before .pre .1 (k - 1) (omega arith)) w))
+    let w = rw e at (l .loop .inv .1) in (
+      search needs,
+      rw (c .slot-of .ensures) (tabling-field (a .names) (a .fields .now) _ (omega arith) _ (k - 1) (s .pre .0 .0 .few) (omega arith) (s .pre .1 (k - 1) (omega arith))
+          w),
+    )
 
 returns : tie.Need-returns Inv-loop μ-loop
 returns c =

@@ -33,8 +33,14 @@ slice-read-counts c = omega (arith, slot (c .before), c .before .before .before 
 
 add-counts : tie.Need-add-counts Inv-loop μ-loop
 add-counts c =
-    let a = c .before .before .before .before .before .before .before .args in
-    omega (arith, zeros-few (a .names) (a .counts .now) (a .labels .now) (c .before .before .before .before .loop .i) (c .before .slot-of .result) (c .before .before .before .before .before .before .before .pre .1), ap (λ (t : List ℕ). t ! c .before .slot-of .result) (c .before .before .before .before .loop .inv .2))
+    let l = c .before .before .before .before in
+    let s = l .before .before .before in
+    let a = s .args in
+    omega (
+      arith,
+      zeros-few (a .names) (a .counts .now) (a .labels .now) (l .loop .i) (c .before .slot-of .result) (s .pre .1),
+      ap (λ (t : List ℕ). t ! c .before .slot-of .result) (l .loop .inv .2),
+    )
 
 mul-counts-2 : tie.Need-mul-counts-2 Inv-loop μ-loop
 mul-counts-2 c = omega (arith, slot (c .before), c .before .before .before .before .loop .inv .1)

@@ -23,12 +23,30 @@ returns-3 c =
 returns-4 : tie.Need-returns-4
 unfolding rowBack allOf
 returns-4 c =
-    rw (← c .before .before .before .before .before .before .before .bisect-u64 .ensures) (simp (lt-ltb _ _ (c .before .before .before .before .before .before .if1 .left), eq-eqb _ _ (c .before .before .before .before .if2 .left), lt-ltb _ _ (c .before .before .before .if3 .left), sym (c .before .fits2 .ensures) ∙ c .if4 .taken))
+    let at-if3 = c .before .before .before in
+    let at-if2 = at-if3 .before in
+    let at-if1 = at-if2 .before .before in
+    let at-bisect-u64 = at-if1 .before in
+    rw (← at-bisect-u64 .bisect-u64 .ensures) (simp (
+      lt-ltb _ _ (at-if1 .if1 .left),
+      eq-eqb _ _ (at-if2 .if2 .left),
+      lt-ltb _ _ (at-if3 .if3 .left),
+      sym (c .before .fits2 .ensures) ∙ c .if4 .taken,
+    ))
 
 returns-5 : tie.Need-returns-5
 unfolding rowBack allOf
 returns-5 c =
-    rw (← c .before .before .before .before .before .before .before .bisect-u64 .ensures) (simp (lt-ltb _ _ (c .before .before .before .before .before .before .if1 .left), eq-eqb _ _ (c .before .before .before .before .if2 .left), lt-ltb _ _ (c .before .before .before .if3 .left), sym (c .before .fits2 .ensures) ∙ c .if4 .left))
+    let at-if3 = c .before .before .before in
+    let at-if2 = at-if3 .before in
+    let at-if1 = at-if2 .before .before in
+    let at-bisect-u64 = at-if1 .before in
+    rw (← at-bisect-u64 .bisect-u64 .ensures) (simp (
+      lt-ltb _ _ (at-if1 .if1 .left),
+      eq-eqb _ _ (at-if2 .if2 .left),
+      lt-ltb _ _ (at-if3 .if3 .left),
+      sym (c .before .fits2 .ensures) ∙ c .if4 .left,
+    ))
 
 pub escape-spec : {M : Type 1} → statement M
 escape-spec =

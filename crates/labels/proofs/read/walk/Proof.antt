@@ -21,16 +21,23 @@ loop-holds c = (search needs, refl)
 
 loop-again : tie.Need-loop-again Inv-loop μ-loop
 loop-again c =
-    let a = c .before .before .before .before .before .before .before .before .before .before .before .before .args in
+    let at-read-code = c .before .before .before .before in
+    let l = at-read-code .before .before .before in
+    let s2 = l .before .before .before .before .before in
+    let a = s2 .args in
     let d = codedOf (a .codes .now) (a .fields .now) (a .escape-at .now) (a .escape-label .now) in
-    let s = sym (c .before .before .before .before .read-code .ensures) ∙ ap readSays (c .before .before .label .given .1) in
-    (search needs, next-more d (a .start) (c .before .before .before .before .before .before .before .loop .i) (c .before .before .before .before .before .before .before .loop .next) _ (c .before .before .before .before .before .before .before .loop .inv .1) s ∙ ap (λ (n : ℕ). n ∷ []) (sym (c .after .ensures)))
+    let s = sym (at-read-code .read-code .ensures) ∙ ap readSays (c .before .before .label .given .1) in
+    (search needs, next-more d (a .start) (l .loop .i) (l .loop .next) _ (l .loop .inv .1) s ∙ ap (λ (n : ℕ). n ∷ []) (sym (c .after .ensures)))
 
 returns : tie.Need-returns Inv-loop μ-loop
 returns c =
-    let a = c .before .before .before .before .before .before .before .before .before .before .args in
+    let i = c .before .before .before .before in
+    let l = i .before in
+    let s = l .before .before .before .before .before in
+    let a = s .args in
     let d = codedOf (a .codes .now) (a .fields .now) (a .escape-at .now) (a .escape-label .now) in
-    walk-stops d (a .start) (c .before .before .before .before .before .loop .i) (c .before .before .before .before .before .loop .next) (a .k) (c .before .before .before .before .loop-test .taken) (c .before .before .before .before .before .loop .inv .1) (sym (c .before .before .read-code .ensures) ∙ ap readSays (c .enum-told .given .1))
+    walk-stops d (a .start) (l .loop .i) (l .loop .next) (a .k) (i .loop-test .taken) (l .loop .inv .1)
+    (sym (c .before .before .read-code .ensures) ∙ ap readSays (c .enum-told .given .1))
 
 returns-2 : tie.Need-returns-2 Inv-loop μ-loop
 returns-2 c =

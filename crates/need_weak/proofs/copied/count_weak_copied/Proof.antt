@@ -37,16 +37,31 @@ shared-slice-read-index-2 : tie.Need-shared-slice-read-index-2 Inv-loop μ-loop
 shared-slice-read-index-2 c = omega (arith, c .before .before .before .before .before .before .before .before .before .before .before .before .before .before .before .before .before .pre .0 .0 .class)
 
 object-requires : tie.Need-object-requires Inv-loop μ-loop
-object-requires c κs = (c .before .before .before .before .before .before .before .before .before .before .before .before .before .before .before .before .before .before .pre .0 .0 .rising, rw (c .before .before .before .index .ensures, c .index2 .ensures) (c .before .before .before .before .before .before .before .before .before .before .before .before .before .before .before .before .before .before .pre .1 (c .before .before .before .before .before .before .loop .o) (omega arith)))
+object-requires c κs =
+    let at-index = c .before .before .before in
+    let l = at-index .before .before .before in
+    let s = l .before .before .before .before .before .before .before .before .before .before .before .before in
+    (s .pre .0 .0 .rising, rw (at-index .index .ensures, c .index2 .ensures) (s .pre .1 (l .loop .o) (omega arith)))
 
 add-n : tie.Need-add-n Inv-loop μ-loop
-add-n c = omega (arith, c .before .before .before .before .before .before .before .loop .inv .1, c .object .ensures .few, c .before .before .before .before .before .before .before .before .before .before .before .before .before .before .before .before .before .before .before .pre .0 .1, c .before .before .before .before .before .before .before .before .before .before .before .before .before .before .before .before .before .before .before .pre .0 .0 .few)
+add-n c =
+    let l = c .before .before .before .before .before .before .before in
+    let s = l .before .before .before .before .before .before .before .before .before .before .before .before in
+    omega (arith, l .loop .inv .1, c .object .ensures .few, s .pre .0 .1, s .pre .0 .0 .few)
 
 loop-again : tie.Need-loop-again Inv-loop μ-loop
 loop-again c =
-    let a = c .before .before .before .before .before .before .before .before .before .before .before .before .before .before .before .before .before .before .before .args in
-    let w = c .before .before .before .before .before .before .before .loop .inv in
-    (search needs, omega (arith, w .1, c .object .ensures .few, c .before .before .before .before .before .before .before .before .before .before .before .before .before .before .before .before .before .before .before .pre .0 .1), copied-more (a .ids .now) (a .kinds .now) (a .classes .now) (a .starts .now) (idsOf (a .codes .now) (a .escape-places .now) (a .escape-ids .now) (a .base)) (a .class-kinds .now) (a .slot-starts .now) (a .slot-ends .now) (a .slot-weak .now) (a .policy) (c .before .before .before .before .before .before .before .loop .o) (w .2) (c .before .before .before .before .index .ensures) (c .before .index2 .ensures) (c .object .ensures .is))
+    let at-index = c .before .before .before .before in
+    let l = at-index .before .before .before in
+    let s = l .before .before .before .before .before .before .before .before .before .before .before .before in
+    let a = s .args in
+    let w = l .loop .inv in (
+      search needs,
+      omega (arith, w .1, c .object .ensures .few, s .pre .0 .1),
+      copied-more (a .ids .now) (a .kinds .now) (a .classes .now) (a .starts .now)
+          (idsOf (a .codes .now) (a .escape-places .now) (a .escape-ids .now) (a .base)) (a .class-kinds .now) (a .slot-starts .now) (a .slot-ends .now) (a .slot-weak .now) (a .policy)
+          (l .loop .o) (w .2) (at-index .index .ensures) (c .before .index2 .ensures) (c .object .ensures .is),
+    )
 
 returns : tie.Need-returns Inv-loop μ-loop
 returns c =

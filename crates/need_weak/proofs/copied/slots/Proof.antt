@@ -29,19 +29,34 @@ add-n c = omega (arith, c .before .before .before .before .before .loop .inv .1,
 
 loop-again : tie.Need-loop-again Inv-loop μ-loop
 loop-again c =
-    let a = c .before .before .before .before .before .before .before .before .before .before .before .args in
-    let k = c .before .before .before .before .before .loop .k in
-    let w = c .before .before .before .before .before .loop .inv in
-    let r = copied-slot (idsOf (a .codes .now) (a .escape-places .now) (a .escape-ids .now) (a .base)) (a .start) k (c .before .id-held .ensures) [] (a .slot-weak .now) false (a .first) in
-    (search needs, omega (arith, w .1, c .pair-to .ensures, pair-few (a .ids .now) (c .before .id-held .result)), pairs-weak (a .ids .now) (copiedSlot (idsOf (a .codes .now) (a .escape-places .now) (a .escape-ids .now) (a .base)) (a .start) [] (a .slot-weak .now) false (a .first)) k (w .2) [] (a .slot-weak .now) (a .first + k) (c .before .id-held .result) r (c .before .before .if1 .taken) (c .pair-to .ensures))
+    let l = c .before .before .before .before .before in
+    let s = l .before .before .before .before .before .before in
+    let a = s .args in
+    let k = l .loop .k in
+    let w = l .loop .inv in
+    let r = copied-slot (idsOf (a .codes .now) (a .escape-places .now) (a .escape-ids .now) (a .base)) (a .start) k (c .before .id-held .ensures) [] (a .slot-weak .now) false
+    (a .first) in (
+      search needs,
+      omega (arith, w .1, c .pair-to .ensures, pair-few (a .ids .now) (c .before .id-held .result)),
+      pairs-weak (a .ids .now)
+          (copiedSlot (idsOf (a .codes .now) (a .escape-places .now) (a .escape-ids .now) (a .base)) (a .start) [] (a .slot-weak .now) false (a .first)) k (w .2) [] (a .slot-weak .now)
+          (a .first + k) (c .before .id-held .result) r (c .before .before .if1 .taken) (c .pair-to .ensures),
+    )
 
 loop-again-2 : tie.Need-loop-again-2 Inv-loop μ-loop
 loop-again-2 c =
-    let a = c .before .before .before .before .before .before .before .before .before .args in
-    let k = c .before .before .before .loop .k in
-    let w = c .before .before .before .loop .inv in
-    let r = copied-slot (idsOf (a .codes .now) (a .escape-places .now) (a .escape-ids .now) (a .base)) (a .start) k refl [] (a .slot-weak .now) false (a .first) in
-    (search needs, search needs, pairs-other (a .ids .now) (copiedSlot (idsOf (a .codes .now) (a .escape-places .now) (a .escape-ids .now) (a .base)) (a .start) [] (a .slot-weak .now) false (a .first)) k (w .2) [] (a .slot-weak .now) (a .first + k) (copiedId (idsOf (a .codes .now) (a .escape-places .now) (a .escape-ids .now) (a .base)) (a .start + k)) r (c .if1 .left))
+    let l = c .before .before .before in
+    let s = l .before .before .before .before .before .before in
+    let a = s .args in
+    let k = l .loop .k in
+    let w = l .loop .inv in
+    let r = copied-slot (idsOf (a .codes .now) (a .escape-places .now) (a .escape-ids .now) (a .base)) (a .start) k refl [] (a .slot-weak .now) false (a .first) in (
+      search needs,
+      search needs,
+      pairs-other (a .ids .now) (copiedSlot (idsOf (a .codes .now) (a .escape-places .now) (a .escape-ids .now) (a .base)) (a .start) []
+          (a .slot-weak .now) false (a .first)) k (w .2) [] (a .slot-weak .now) (a .first + k)
+          (copiedId (idsOf (a .codes .now) (a .escape-places .now) (a .escape-ids .now) (a .base)) (a .start + k)) r (c .if1 .left),
+    )
 
 returns : tie.Need-returns Inv-loop μ-loop
 returns c =

@@ -15,13 +15,31 @@ returns-3 : tie.Need-returns-3
 returns-3 c = let a = c .before .before .before .before .before .before .before .before .args in no-end (a .class-kinds .now) (a .slot-starts .now) (a .slot-ends .now) (a .slot-weak .now) (a .class) (c .before .before .if1 .left) (c .if3 .taken)
 
 returns-4 : tie.Need-returns-4
-returns-4 c = let a = c .before .before .before .before .before .before .before .before .before .before .before .before .before .args in not-ordered (a .class-kinds .now) (a .slot-starts .now) (a .slot-ends .now) (a .slot-weak .now) (a .class) (c .before .before .before .before .before .before .before .if1 .left) (c .before .before .before .index .ensures) (c .before .index2 .ensures) (c .if4 .taken)
+returns-4 c =
+    let at-index = c .before .before .before in
+    let at-if1 = at-index .before .before .before .before in
+    let s = at-if1 .before .before .before .before .before .before in
+    let a = s .args in not-ordered (a .class-kinds .now) (a .slot-starts .now) (a .slot-ends .now) (a .slot-weak .now) (a .class) (at-if1 .if1 .left) (at-index .index .ensures)
+    (c .before .index2 .ensures) (c .if4 .taken)
 
 returns-5 : tie.Need-returns-5
-returns-5 c = let a = c .before .before .before .before .before .before .before .before .before .before .before .before .before .before .args in not-in (a .class-kinds .now) (a .slot-starts .now) (a .slot-ends .now) (a .slot-weak .now) (a .class) (c .before .before .before .before .before .before .before .before .if1 .left) (c .before .before .index2 .ensures) (c .if5 .taken)
+returns-5 c =
+    let at-if1 = c .before .before .before .before .before .before .before .before in
+    let s = at-if1 .before .before .before .before .before .before in
+    let a = s .args in not-in (a .class-kinds .now) (a .slot-starts .now) (a .slot-ends .now) (a .slot-weak .now) (a .class) (at-if1 .if1 .left)
+    (c .before .before .index2 .ensures) (c .if5 .taken)
 
 returns-6 : tie.Need-returns-6
-returns-6 c = let a = c .before .before .before .before .before .before .before .before .before .before .before .before .before .before .before .args in slots-told (a .class-kinds .now) (a .slot-starts .now) (a .slot-ends .now) (a .slot-weak .now) (a .class) (c .before .before .before .before .before .before .before .before .before .if1 .left) (omega (arith, c .before .before .before .before .before .before .before .before .if2 .left)) (omega (arith, c .before .before .before .before .before .before .before .if3 .left)) (c .before .before .before .before .before .index .ensures) (c .before .before .before .index2 .ensures) (omega (arith, c .before .before .if4 .left)) (omega (arith, c .before .if5 .left)) (c .slots .ensures .is)
+returns-6 c =
+    let at-index2 = c .before .before .before in
+    let at-index = at-index2 .before .before in
+    let at-if3 = at-index .before .before in
+    let at-if2 = at-if3 .before in
+    let at-if1 = at-if2 .before in
+    let s = at-if1 .before .before .before .before .before .before in
+    let a = s .args in slots-told (a .class-kinds .now) (a .slot-starts .now) (a .slot-ends .now) (a .slot-weak .now) (a .class) (at-if1 .if1 .left)
+    (omega (arith, at-if2 .if2 .left)) (omega (arith, at-if3 .if3 .left)) (at-index .index .ensures) (at-index2 .index2 .ensures) (omega (arith, c .before .before .if4 .left))
+    (omega (arith, c .before .if5 .left)) (c .slots .ensures .is)
 
 pub class-weak-spec : {M : Type 1} → statement M
 class-weak-spec =

@@ -28,9 +28,15 @@ add-n c = let q = c .before .before .before .before .before .before .before .bef
 
 loop-again : tie.Need-loop-again Inv-loop μ-loop
 loop-again c =
-    let a = c .before .before .before .before .before .before .before .before .before .before .before .before .before .args in
-    let w = c .before .before .before .before .before .loop .inv in
-    (search needs, omega (arith, w .1, c .object .ensures .few, c .before .before .before .before .before .before .before .before .before .before .before .before .before .pre .0 .2), most-more (a .kinds .now) (a .classes .now) (a .class-kinds .now) (a .slot-starts .now) (a .slot-ends .now) (a .slot-weak .now) (a .policy) (c .before .before .before .before .before .loop .o) (w .2) (c .before .index .ensures) (c .object .ensures .is))
+    let l = c .before .before .before .before .before in
+    let s = l .before .before .before .before .before .before .before .before in
+    let a = s .args in
+    let w = l .loop .inv in (
+      search needs,
+      omega (arith, w .1, c .object .ensures .few, s .pre .0 .2),
+      most-more (a .kinds .now) (a .classes .now) (a .class-kinds .now) (a .slot-starts .now)
+          (a .slot-ends .now) (a .slot-weak .now) (a .policy) (l .loop .o) (w .2) (c .before .index .ensures) (c .object .ensures .is),
+    )
 
 returns : tie.Need-returns Inv-loop μ-loop
 returns c =

@@ -13,13 +13,26 @@ shared-slice-read-is-plain : tie.Need-shared-slice-read-is-plain
 shared-slice-read-is-plain c = omega (arith, c .before .before .before .before .before .before .pre .0 .kind-in (c .before .if1 .left))
 
 returns-2 : tie.Need-returns-2
-returns-2 c = let a = c .before .before .before .before .before .before .before .before .args in record { is = most-plain (a .class-kinds .now) (a .slot-starts .now) (a .slot-ends .now) (a .slot-weak .now) (a .policy) (a .kind) (a .class) (c .before .before .before .before .before .before .before .before .pre .1) (c .before .before .before .before .before .before .before .before .pre .0 .kind-in (c .before .before .before .if1 .left)) (c .before .is-plain .ensures) (c .if2 .taken); few = omega arith }
+returns-2 c =
+    let at-if1 = c .before .before .before in
+    let s = at-if1 .before .before .before .before .before in
+    let a = s .args in record {
+      is = most-plain (a .class-kinds .now) (a .slot-starts .now) (a .slot-ends .now) (a .slot-weak .now) (a .policy) (a .kind) (a .class) (s .pre .1)
+          (s .pre .0 .kind-in (at-if1 .if1 .left)) (c .before .is-plain .ensures) (c .if2 .taken);
+      few = omega arith;
+    }
 
 shared-slice-read-keeps : tie.Need-shared-slice-read-keeps
 shared-slice-read-keeps c = omega (arith, c .before .before .before .before .before .before .before .before .before .pre .0 .kind-in (c .before .before .before .before .if1 .left))
 
 returns-3 : tie.Need-returns-3
-returns-3 c = let a = c .before .before .before .before .before .before .before .before .before .before .before .args in record { is = most-kept (a .class-kinds .now) (a .slot-starts .now) (a .slot-ends .now) (a .slot-weak .now) (a .policy) (a .kind) (a .class) (c .before .keeps .ensures) (c .if3 .taken); few = omega arith }
+returns-3 c =
+    let s = c .before .before .before .before .before .before .before .before .before .before .before in
+    let a = s .args in record {
+      is = most-kept (a .class-kinds .now) (a .slot-starts .now) (a .slot-ends .now) (a .slot-weak .now) (a .policy) (a .kind) (a .class)
+          (c .before .keeps .ensures) (c .if3 .taken);
+      few = omega arith;
+    }
 
 mul-index : tie.Need-mul-index
 mul-index c = omega (arith, c .before .before .before .before .before .before .before .before .before .before .before .pre .0 .start-in (c .before .before .before .before .before .before .if1 .left))
@@ -34,7 +47,10 @@ shared-slice-read-index-2 : tie.Need-shared-slice-read-index-2
 shared-slice-read-index-2 c = omega (arith, c .before .before .before .before .before .before .before .before .before .before .before .before .before .before .pre .0 .end-in (c .before .before .before .before .before .before .before .before .before .if1 .left))
 
 sub-count : tie.Need-sub-count
-sub-count c = omega (arith, c .before .before .index .ensures, c .index2 .ensures, c .before .before .before .before .before .before .before .before .before .before .before .before .before .before .before .pre .0 .ordered (c .before .before .before .before .before .before .before .before .before .before .if1 .left))
+sub-count c =
+    let at-if1 = c .before .before .before .before .before .before .before .before .before .before in
+    let s = at-if1 .before .before .before .before .before in
+    omega (arith, c .before .before .index .ensures, c .index2 .ensures, s .pre .0 .ordered (at-if1 .if1 .left))
 
 slots-requires : tie.Need-slots-requires
 slots-requires c κs =
@@ -44,12 +60,18 @@ slots-requires c κs =
 
 returns-4 : tie.Need-returns-4
 returns-4 c =
-    let a = c .before .before .before .before .before .before .before .before .before .before .before .before .before .before .before .before .args in
-    let f = c .before .before .before .before .before .before .before .before .before .before .before .before .before .before .before .before .pre .0 in
-    let z = c .before .before .before .before .before .before .before .before .before .before .before .if1 .left in
+    let at-index = c .before .before .before in
+    let at-if3 = at-index .before .before in
+    let at-keeps = at-if3 .before in
+    let at-if1 = at-keeps .before .before .before .before .before in
+    let s = at-if1 .before .before .before .before .before in
+    let a = s .args in
+    let f = s .pre .0 in
+    let z = at-if1 .if1 .left in
     record {
-      is = c .slots .ensures .is ∙ most-some (a .class-kinds .now) (a .slot-starts .now) (a .slot-ends .now) (a .slot-weak .now) (a .policy) (a .kind) (a .class) z (c .before .before .before .before .before .before .keeps .ensures) (c .before .before .before .before .before .if3 .left) (c .before .before .before .index .ensures) (c .before .index2 .ensures);
-      few = omega (arith, c .slots .ensures .few, c .before .before .before .index .ensures, c .before .index2 .ensures, f .ordered z, f .weak-in z);
+      is = c .slots .ensures .is ∙ most-some (a .class-kinds .now) (a .slot-starts .now) (a .slot-ends .now) (a .slot-weak .now) (a .policy) (a .kind) (a .class) z
+          (at-keeps .keeps .ensures) (at-if3 .if3 .left) (at-index .index .ensures) (c .before .index2 .ensures);
+      few = omega (arith, c .slots .ensures .few, at-index .index .ensures, c .before .index2 .ensures, f .ordered z, f .weak-in z);
     }
 
 pub object-spec : {M : Type 1} → statement M

@@ -43,17 +43,31 @@ shared-slice-read-index-2 c = omega (arith, c .before .before .before .before .b
 
 object-requires : tie.Need-object-requires Inv-loop μ-loop
 object-requires c κs =
-    let o = c .before .before .before .before .before .before .before .loop .o in
-    ((c .before .before .before .before .before .before .before .before .before .before .before .before .before .before .before .before .before .before .before .pre .0 .0 .rising, rw (c .index2 .ensures) (c .before .before .before .before .before .before .before .before .before .before .before .before .before .before .before .before .before .before .before .pre .1 .0 o (omega arith))), (λ z. rw (c .before .before .before .index .ensures) (c .before .before .before .before .before .before .before .before .before .before .before .before .before .before .before .before .before .before .before .pre .1 .1 o (omega arith) z)))
+    let at-index = c .before .before .before in
+    let l = at-index .before .before .before .before in
+    let s = l .before .before .before .before .before .before .before .before .before .before .before .before in
+    let o = l .loop .o in
+    ((s .pre .0 .0 .rising, rw (c .index2 .ensures) (s .pre .1 .0 o (omega arith))), (λ z. rw (at-index .index .ensures) (s .pre .1 .1 o (omega arith) z)))
 
 add-n : tie.Need-add-n Inv-loop μ-loop
-add-n c = omega (arith, c .before .before .before .before .before .before .before .before .loop .inv .1, c .object .ensures .few, c .before .before .before .before .before .before .before .before .before .before .before .before .before .before .before .before .before .before .before .before .pre .0 .2, c .before .before .before .before .before .before .before .before .before .before .before .before .before .before .before .before .before .before .before .before .pre .0 .0 .few)
+add-n c =
+    let l = c .before .before .before .before .before .before .before .before in
+    let s = l .before .before .before .before .before .before .before .before .before .before .before .before in
+    omega (arith, l .loop .inv .1, c .object .ensures .few, s .pre .0 .2, s .pre .0 .0 .few)
 
 loop-again : tie.Need-loop-again Inv-loop μ-loop
 loop-again c =
-    let a = c .before .before .before .before .before .before .before .before .before .before .before .before .before .before .before .before .before .before .before .before .args in
-    let w = c .before .before .before .before .before .before .before .before .loop .inv in
-    (search needs, omega (arith, w .1, c .object .ensures .few, c .before .before .before .before .before .before .before .before .before .before .before .before .before .before .before .before .before .before .before .before .pre .0 .2), raw-more (a .ids .now) (a .kinds .now) (a .classes .now) (a .starts .now) (a .bodies .now) (a .bytes .now) (a .size) (a .class-kinds .now) (a .slot-starts .now) (a .slot-ends .now) (a .slot-offsets .now) (a .slot-weak .now) (a .policy) (c .before .before .before .before .before .before .before .before .loop .o) (w .2) (c .before .before .before .before .index .ensures) (c .before .index2 .ensures) (c .object .ensures .is))
+    let at-index = c .before .before .before .before in
+    let l = at-index .before .before .before .before in
+    let s = l .before .before .before .before .before .before .before .before .before .before .before .before in
+    let a = s .args in
+    let w = l .loop .inv in (
+      search needs,
+      omega (arith, w .1, c .object .ensures .few, s .pre .0 .2),
+      raw-more (a .ids .now) (a .kinds .now) (a .classes .now) (a .starts .now) (a .bodies .now)
+          (a .bytes .now) (a .size) (a .class-kinds .now) (a .slot-starts .now) (a .slot-ends .now) (a .slot-offsets .now) (a .slot-weak .now) (a .policy) (l .loop .o) (w .2)
+          (at-index .index .ensures) (c .before .index2 .ensures) (c .object .ensures .is),
+    )
 
 returns : tie.Need-returns Inv-loop μ-loop
 returns c =

@@ -32,38 +32,68 @@ loop-holds c =
 
 returns : tie.Need-returns Inv-loop μ-loop
 returns c =
-    let a = c .before .before .before .before .before .before .before .before .before .args in
-    let k = c .before .before .before .before .loop .k in
-    let w = c .before .before .before .before .loop .inv in
+    let l = c .before .before .before .before in
+    let s = l .before .before .before .before .before in
+    let a = s .args in
+    let k = l .loop .k in
+    let w = l .loop .inv in
     let h = ltb-true _ _ (sym (c .before .ends-past .ensures) ∙ c .if1 .taken) in
-    record { is = w .3 ∙ ap (λ (n : ℕ). pairsIn (a .ids .now) (tab (rawSlot (a .bytes .now) (a .size) (a .start) (a .slot-offsets .now) [] (a .slot-weak .now) false (a .first)) n)) (sym (read-stop (a .slot-offsets .now) (a .size) (a .body) (a .first) k (w .2) h (a .count) (w .0))); few = omega arith }
+    record {
+      is = w .3 ∙ ap (λ (n : ℕ). pairsIn (a .ids .now) (tab (rawSlot (a .bytes .now) (a .size) (a .start) (a .slot-offsets .now) [] (a .slot-weak .now) false
+          (a .first)) n)) (sym (read-stop (a .slot-offsets .now) (a .size) (a .body) (a .first) k (w .2) h (a .count) (w .0)));
+      few = omega arith;
+    }
 
 add-id-at-bytes : tie.Need-add-id-at-bytes Inv-loop μ-loop
 add-id-at-bytes c = omega (arith, ends (c .before .before .before), c .index .ensures, c .before .before .before .before .before .before .before .before .before .before .before .before .pre .3 .inside)
 
 id-at-bytes-requires : tie.Need-id-at-bytes-requires Inv-loop μ-loop
-id-at-bytes-requires c κs = (omega (arith, ends (c .before .before .before), c .index .ensures, c .before .before .before .before .before .before .before .before .before .before .before .before .pre .3 .inside), c .before .before .before .before .before .before .before .before .before .before .before .before .pre .3 .short)
+id-at-bytes-requires c κs =
+    let p = c .before .before .before in
+    let s = p .before .before .before .before .before .before .before .before .before in
+    (omega (arith, ends p, c .index .ensures, s .pre .3 .inside), s .pre .3 .short)
 
 add-n : tie.Need-add-n Inv-loop μ-loop
-add-n c = omega (arith, c .before .before .before .before .before .before .before .before .before .loop .inv .1, c .pair-to .ensures, pair-few (c .before .before .before .before .before .before .before .before .before .before .before .before .before .before .args .ids .now) (c .before .id-at-bytes .result))
+add-n c =
+    let l = c .before .before .before .before .before .before .before .before .before in
+    let s = l .before .before .before .before .before in
+    omega (arith, l .loop .inv .1, c .pair-to .ensures, pair-few (s .args .ids .now) (c .before .id-at-bytes .result))
 
 loop-again : tie.Need-loop-again Inv-loop μ-loop
 loop-again c =
-    let a = c .before .before .before .before .before .before .before .before .before .before .before .before .before .before .args in
-    let k = c .before .before .before .before .before .before .before .before .before .loop .k in
-    let w = c .before .before .before .before .before .before .before .before .before .loop .inv in
-    let h = ends (c .before .before .before .before .before) in
-    let r = raw-slot (a .bytes .now) (a .size) (a .start) (a .slot-offsets .now) [] (a .slot-weak .now) false (a .first) k (c .before .before .index .ensures) (c .before .id-at-bytes .ensures) in
-    (search needs, omega (arith, w .1, c .pair-to .ensures, pair-few (a .ids .now) (c .before .id-at-bytes .result)), read-next (a .slot-offsets .now) (a .size) (a .body) (a .first) k (w .2) h, pairs-weak (a .ids .now) (rawSlot (a .bytes .now) (a .size) (a .start) (a .slot-offsets .now) [] (a .slot-weak .now) false (a .first)) k (w .3) [] (a .slot-weak .now) (a .first + k) (c .before .id-at-bytes .result) r (c .before .before .before .if2 .taken) (c .pair-to .ensures))
+    let at-if2 = c .before .before .before in
+    let p = at-if2 .before .before in
+    let l = p .before .before .before .before in
+    let s = l .before .before .before .before .before in
+    let a = s .args in
+    let k = l .loop .k in
+    let w = l .loop .inv in
+    let h = ends p in
+    let r = raw-slot (a .bytes .now) (a .size) (a .start) (a .slot-offsets .now) [] (a .slot-weak .now) false (a .first) k (c .before .before .index .ensures)
+    (c .before .id-at-bytes .ensures) in (
+      search needs,
+      omega (arith, w .1, c .pair-to .ensures, pair-few (a .ids .now) (c .before .id-at-bytes .result)),
+      read-next (a .slot-offsets .now) (a .size) (a .body)
+          (a .first) k (w .2) h,
+      pairs-weak (a .ids .now) (rawSlot (a .bytes .now) (a .size) (a .start) (a .slot-offsets .now) [] (a .slot-weak .now) false (a .first)) k (w .3) []
+          (a .slot-weak .now) (a .first + k) (c .before .id-at-bytes .result) r (at-if2 .if2 .taken) (c .pair-to .ensures),
+    )
 
 loop-again-2 : tie.Need-loop-again-2 Inv-loop μ-loop
 loop-again-2 c =
-    let a = c .before .before .before .before .before .before .before .before .before .before .before .args in
-    let k = c .before .before .before .before .before .before .loop .k in
-    let w = c .before .before .before .before .before .before .loop .inv in
+    let l = c .before .before .before .before .before .before in
+    let s = l .before .before .before .before .before in
+    let a = s .args in
+    let k = l .loop .k in
+    let w = l .loop .inv in
     let h = ends (c .before .before) in
-    let r = raw-slot (a .bytes .now) (a .size) (a .start) (a .slot-offsets .now) [] (a .slot-weak .now) false (a .first) k refl refl in
-    (search needs, search needs, read-next (a .slot-offsets .now) (a .size) (a .body) (a .first) k (w .2) h, pairs-other (a .ids .now) (rawSlot (a .bytes .now) (a .size) (a .start) (a .slot-offsets .now) [] (a .slot-weak .now) false (a .first)) k (w .3) [] (a .slot-weak .now) (a .first + k) _ r (c .if2 .left))
+    let r = raw-slot (a .bytes .now) (a .size) (a .start) (a .slot-offsets .now) [] (a .slot-weak .now) false (a .first) k refl refl in (
+      search needs,
+      search needs,
+      read-next (a .slot-offsets .now) (a .size) (a .body) (a .first) k (w .2) h,
+      pairs-other (a .ids .now)
+          (rawSlot (a .bytes .now) (a .size) (a .start) (a .slot-offsets .now) [] (a .slot-weak .now) false (a .first)) k (w .3) [] (a .slot-weak .now) (a .first + k) _ r (c .if2 .left),
+    )
 
 returns-2 : tie.Need-returns-2 Inv-loop μ-loop
 returns-2 c =

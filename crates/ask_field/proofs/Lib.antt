@@ -1,0 +1,5 @@
+pub mod Placed
+pub mod Fields
+pub mod Promises
+pub mod Once
+pub mod Built

@@ -1,0 +1,60 @@
+-- On the columns of an accepted build, or of an accepted `from_parts`, each call's answer is the same question on the edges, and 12 is never given. Assumes nothing.
+use Prim.Native.Nat.{ℕ, _-_, _^_, _≤_, _<_}
+use mathlib.Core.Path.{_≡_}
+use mathlib.Core.List.{List, _∷_}
+use lib.ListN.{length}
+use Rattle.columns.specs.Lists.{_!_}
+use Rattle.rules.specs.Types.{LOADER}
+use Rattle.rules.specs.Input.{Input, Schema, objectCount}
+use Rattle.rules.specs.Edges.{Parts, edgesOf, graph}
+use Rattle.rules.specs.Needs.{objectsOf}
+use Rattle.rules.specs.Questions.{Columns, columnsOf, edgesAt, coarse, asked, plainly, readsBack, edgesRead, coarseIn, exactIn, labelIn, exactOf, labelOf}
+use Rattle.rules.proofs.Acceptance.{Passed}
+use Rattle.rules.proofs.Asked.{coarse-plain, exact-plain, label-plain}
+use Rattle.rules.proofs.Finished.{coarse-asked, exact-asked, label-asked, never-12, never-12-edge}
+use Rattle.rules.proofs.Meets.{Meets}
+use Rattle.ask_span.proofs.Built.{built, strong}
+use Rattle.ask_span.specs.Graph.{spanIn}
+use Rattle.ask_label.specs.Labelled.{edgeAsked, coarseAt, Labelled}
+use Rattle.ask_label.proofs.Labels.{coarse-promised}
+
+-- Columns that meet PARTS, as `from_parts` codes them: each call's answer is the same question on the plain columns.
+module _ (s : Schema) (p : Parts) (law : Meets (s .names) p) (small : s .names ≤ LOADER) (few : length (p .labels) < 2 ^ 64) (o : ℕ) where
+  abbrev g : Columns
+  g = columnsOf s p
+
+  abbrev m : ℕ
+  m = objectsOf p
+
+  module _ (wide : (e : ℕ) → e < length (p .labels) → p .labels ! e < 4294967296) where
+    pub coarse-kept : (k : ℕ) → coarseAt (strong g) o k ≡ plainly m o (coarseIn (edgesAt p o) k)
+    unfolding coarseAt
+    coarse-kept k = built (coarse-promised g o k) (coarse-plain s p law few wide o k) (never-12-edge m o k coarse (edgesAt p o))
+
+    pub exact-kept : (k : ℕ) {says : List ℕ} → Labelled o (edgeAsked (spanIn (strong g) o) k) says (exactOf (strong g) o k) → says ≡ plainly m o (exactIn (edgesAt p o) k)
+    unfolding exactOf asked readsBack edgesRead
+    exact-kept k w = built (w .promised) (exact-plain s p law few wide o k) (never-12-edge m o k (λ l. l) (edgesAt p o))
+
+    pub label-kept : (t : ℕ) {says : List ℕ} → Labelled o (spanIn (strong g) o) says (labelOf (strong g) o t) → says ≡ plainly m o (0 ∷ labelIn (edgesAt p o) t)
+    unfolding labelOf asked readsBack edgesRead
+    label-kept t w = built (w .promised) (label-plain s p law few wide o t) (never-12 m o _)
+
+-- The columns of an accepted build: the same question on the object's edges, as the input gives them.
+module _ (x : Input) (h : Passed x) (o : ℕ) where
+  abbrev c : Columns
+  c = columnsOf (x .schema) (graph x)
+
+  abbrev n : ℕ
+  n = objectCount x
+
+  pub coarse-built : (k : ℕ) → coarseAt (strong c) o k ≡ plainly n o (coarseIn (edgesOf x o) k)
+  unfolding coarseAt
+  coarse-built k = built (coarse-promised c o k) (coarse-asked x h o k) (never-12-edge n o k coarse (edgesOf x o))
+
+  pub exact-built : (k : ℕ) {says : List ℕ} → Labelled o (edgeAsked (spanIn (strong c) o) k) says (exactOf (strong c) o k) → says ≡ plainly n o (exactIn (edgesOf x o) k)
+  unfolding exactOf asked readsBack edgesRead
+  exact-built k w = built (w .promised) (exact-asked x h o k) (never-12-edge n o k (λ l. l) (edgesOf x o))
+
+  pub label-built : (t : ℕ) {says : List ℕ} → Labelled o (spanIn (strong c) o) says (labelOf (strong c) o t) → says ≡ plainly n o (0 ∷ labelIn (edgesOf x o) t)
+  unfolding labelOf asked readsBack edgesRead
+  label-built t w = built (w .promised) (label-asked x h o t) (never-12 n o _)

@@ -1,0 +1,4 @@
+pub mod Spans
+pub mod FirstEdge
+pub mod Escapes
+pub mod Built

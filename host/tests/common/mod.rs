@@ -1,0 +1,37 @@
+//! The worked dump of document 01.
+use yokefathom::{Classes, Input, Objects, ReferencePolicy, References, Schema, Slots, Statics};
+
+pub const OBJECTS: Objects<'static> =
+    Objects { ids: &[256, 264, 512, 4096], kinds: &[0, 0, 1, 3], classes: &[0, 1, 0, 0], lengths: &[0, 0, 3, 0] };
+
+/// Three names. Class 0 has a slot; class 1 is a weak reference; class 2 is dumped, with a static and a loader.
+pub const SCHEMA: Schema<'static> = Schema {
+    classes: Classes {
+        ids: &[0, 0, 4096],
+        loaders: &[0, 0, 512],
+        dumped: &[0, 0, 1],
+        kinds: &[0, 2, 0],
+        slot_starts: &[0, 1, 2],
+        slot_ends: &[1, 2, 2],
+        static_starts: &[0, 0, 0],
+        static_ends: &[0, 0, 1],
+    },
+    slots: Slots { offsets: &[0, 0], labels: &[0, 1], weak: &[0, 1] },
+    statics: Statics { names: &[2], types: &[2], values: &[256] },
+    names: 3,
+};
+
+pub const COPIED: References<'static> =
+    References::Copied { codes: &[2, 1, 0, 1, u32::MAX], escape_places: &[4], escape_ids: &[9999], base: 256, starts: &[0, 1, 2, 5] };
+
+/// What the objects hold, in bodies of this id size one behind the other.
+pub fn bodies(id_size: usize) -> (Vec<u8>, [u64; 4], [u32; 4]) {
+    let held = [264u64, 256, 0, 256, 9999];
+    let bytes = held.iter().flat_map(|id| id.to_be_bytes()[8 - id_size..].to_vec()).collect();
+    (bytes, [0, 1, 2, 5].map(|at| at * id_size as u64), [1, 1, 3, 0].map(|ids| ids * id_size as u32))
+}
+
+/// The dump by one route, under the policy that keeps nothing.
+pub fn worked(references: References<'_>) -> Input<'_> {
+    Input { objects: OBJECTS, schema: SCHEMA, references, roots: &[3, 0, 3], policy: ReferencePolicy::default() }
+}
