@@ -1,12 +1,8 @@
 // The two builds.
 use rules::ReferencePolicy;
-ghost use mathlib.Core.Path.{_≡_};
-ghost use lib.ListN.{length};
+ghost use Rattle.columns.specs.Loans.{entry, exit};
 ghost use Rattle.rules.specs.Built.{buildLeft};
-ghost use Rattle.code_columns.specs.Finished.{lentOf};
-ghost use Rattle.code_columns.specs.Finished.{leftOf as codedOf};
-ghost use Rattle.check_input.specs.Flat.{copiedInput, rawInput};
-ghost use Rattle.build_rooms.specs.Stages.{roomsOf};
+ghost use Rattle.rules.specs.Tables.{objectTable, classTable, slotTable, staticTable, schemaOf, copiedRoute, rawRoute, inputOf, roomOf, codingRoom, codingLeft};
 ghost use Rattle.yokefathom.specs.Calls.{policyOf, BuildTold};
 
 // The graph of an input by the copied route, in the columns lent, with its account; or a refusal, and all of them zero.
@@ -59,7 +55,16 @@ pub extern "C" fn yokefathom_build_copied(
     ranking: &mut [u64],
     answer: &mut [u64; 9],
 )
-    ensures { λ _. ⌜ BuildTold (buildLeft (copiedInput (now (ids .entry)) (now (kinds .entry)) (now (classes .entry)) (now (lengths .entry)) (now («class_ids» .entry)) (now (loaders .entry)) (now (dumped .entry)) (now («class_kinds» .entry)) (now («slot_starts» .entry)) (now («slot_ends» .entry)) (now («static_starts» .entry)) (now («static_ends» .entry)) (now («slot_offsets» .entry)) (now («slot_labels» .entry)) (now («slot_weak» .entry)) (now («static_names» .entry)) (now («static_types» .entry)) (now («static_values» .entry)) names (now (codes .entry)) (now («escape_places» .entry)) (now («escape_ids» .entry)) base (now (starts .entry)) (now (roots .entry)) (policyOf «keep_soft» «keep_weak»)) (roomsOf (length (now (targets .entry))) (length (now (labels .entry))) (length (now («weak_from» .entry))) (length (now («weak_to» .entry))) (length (now («roots_out» .entry))) (length (now (working .entry))) (lentOf (length (now (bases .entry))) (length (now (short .entry))) (length (now («long_at» .entry))) (length (now («long_value» .entry))) (length (now (fields .entry))) (length (now (table .entry))) (length (now («escape_at» .entry))) (length (now («escape_label» .entry))) (length (now («edge_codes» .entry))) (length (now (counting .entry))) (length (now (ranking .entry)))))) (now (answer .exit)) (now (targets .exit)) (now (labels .exit)) (now («weak_from» .exit)) (now («weak_to» .exit)) (now («roots_out» .exit)) (now (working .exit)) (codedOf (now (bases .exit)) (now (short .exit)) (now («long_at» .exit)) (now («long_value» .exit)) (now (fields .exit)) (now (table .exit)) (now («escape_at» .exit)) (now («escape_label» .exit)) (now («edge_codes» .exit)) (now (counting .exit)) (now (ranking .exit))) (now (account .exit)) ⌝ }
+    ensures { λ _. ⌜ (
+        let schema = schemaOf (classTable entry «class_ids» loaders dumped «class_kinds» «slot_starts» «slot_ends» «static_starts» «static_ends»)
+        (slotTable entry «slot_offsets» «slot_labels» «slot_weak») (staticTable entry «static_names» «static_types» «static_values») names in
+        let route = copiedRoute entry codes «escape_places» «escape_ids» base starts in
+        let input = inputOf (objectTable entry ids kinds classes lengths) schema route (entry roots) (policyOf «keep_soft» «keep_weak») in
+        let room = roomOf entry targets labels «weak_from» «weak_to» «roots_out» working
+        (codingRoom entry bases short «long_at» «long_value» fields table «escape_at» «escape_label» «edge_codes» counting ranking) in
+        let coded = codingLeft exit bases short «long_at» «long_value» fields table «escape_at» «escape_label» «edge_codes» counting ranking in
+        BuildTold (buildLeft input room) (exit answer)
+        (exit targets) (exit labels) (exit «weak_from») (exit «weak_to») (exit «roots_out») (exit working) coded (exit account)) ⌝ }
 {
     let built = build::build_copied(
         ids,
@@ -163,7 +168,16 @@ pub extern "C" fn yokefathom_build_raw(
     ranking: &mut [u64],
     answer: &mut [u64; 9],
 )
-    ensures { λ _. ⌜ BuildTold (buildLeft (rawInput (now (ids .entry)) (now (kinds .entry)) (now (classes .entry)) (now (lengths .entry)) (now («class_ids» .entry)) (now (loaders .entry)) (now (dumped .entry)) (now («class_kinds» .entry)) (now («slot_starts» .entry)) (now («slot_ends» .entry)) (now («static_starts» .entry)) (now («static_ends» .entry)) (now («slot_offsets» .entry)) (now («slot_labels» .entry)) (now («slot_weak» .entry)) (now («static_names» .entry)) (now («static_types» .entry)) (now («static_values» .entry)) names (now (bytes .entry)) size (now (starts .entry)) (now (bodies .entry)) (now (roots .entry)) (policyOf «keep_soft» «keep_weak»)) (roomsOf (length (now (targets .entry))) (length (now (labels .entry))) (length (now («weak_from» .entry))) (length (now («weak_to» .entry))) (length (now («roots_out» .entry))) (length (now (working .entry))) (lentOf (length (now (bases .entry))) (length (now (short .entry))) (length (now («long_at» .entry))) (length (now («long_value» .entry))) (length (now (fields .entry))) (length (now (table .entry))) (length (now («escape_at» .entry))) (length (now («escape_label» .entry))) (length (now («edge_codes» .entry))) (length (now (counting .entry))) (length (now (ranking .entry)))))) (now (answer .exit)) (now (targets .exit)) (now (labels .exit)) (now («weak_from» .exit)) (now («weak_to» .exit)) (now («roots_out» .exit)) (now (working .exit)) (codedOf (now (bases .exit)) (now (short .exit)) (now («long_at» .exit)) (now («long_value» .exit)) (now (fields .exit)) (now (table .exit)) (now («escape_at» .exit)) (now («escape_label» .exit)) (now («edge_codes» .exit)) (now (counting .exit)) (now (ranking .exit))) (now (account .exit)) ⌝ }
+    ensures { λ _. ⌜ (
+        let schema = schemaOf (classTable entry «class_ids» loaders dumped «class_kinds» «slot_starts» «slot_ends» «static_starts» «static_ends»)
+        (slotTable entry «slot_offsets» «slot_labels» «slot_weak») (staticTable entry «static_names» «static_types» «static_values») names in
+        let route = rawRoute entry bytes size starts bodies in
+        let input = inputOf (objectTable entry ids kinds classes lengths) schema route (entry roots) (policyOf «keep_soft» «keep_weak») in
+        let room = roomOf entry targets labels «weak_from» «weak_to» «roots_out» working
+        (codingRoom entry bases short «long_at» «long_value» fields table «escape_at» «escape_label» «edge_codes» counting ranking) in
+        let coded = codingLeft exit bases short «long_at» «long_value» fields table «escape_at» «escape_label» «edge_codes» counting ranking in
+        BuildTold (buildLeft input room) (exit answer)
+        (exit targets) (exit labels) (exit «weak_from») (exit «weak_to») (exit «roots_out») (exit working) coded (exit account)) ⌝ }
 {
     let built = build::build_raw(
         ids,

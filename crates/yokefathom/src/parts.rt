@@ -1,10 +1,8 @@
 // A graph from its plain columns.
-ghost use mathlib.Core.Path.{_≡_};
-ghost use lib.ListN.{length};
+ghost use Rattle.columns.specs.Loans.{entry, exit};
 ghost use Rattle.rules.specs.Built.{partsLeft};
-ghost use Rattle.check_tables.specs.Lengths.{schemaOf};
-ghost use Rattle.code_columns.specs.Finished.{lentOf, leftOf};
-ghost use Rattle.from_parts.specs.Parts.{partsOf};
+ghost use Rattle.rules.specs.Tables.{classTable, slotTable, staticTable, schemaOf, codingRoom, codingLeft};
+ghost use Rattle.from_parts.specs.Parts.{plainColumns};
 ghost use Rattle.yokefathom.specs.Calls.{PartsTold};
 
 // The coded columns of the graph whose plain columns these are, with the used lengths; or the refusal, and all of them zero.
@@ -40,12 +38,18 @@ pub extern "C" fn yokefathom_from_parts(
     table: &mut [u16],
     escape_at: &mut [u64],
     escape_label: &mut [u32],
-    codes: &mut [u16],
+    edge_codes: &mut [u16],
     counting: &mut [u64],
     ranking: &mut [u64],
     answer: &mut [u64; 9],
 )
-    ensures { λ _. ⌜ PartsTold (partsLeft (schemaOf (now («class_ids» .entry)) (now (loaders .entry)) (now (dumped .entry)) (now («class_kinds» .entry)) (now («slot_starts» .entry)) (now («slot_ends» .entry)) (now («static_starts» .entry)) (now («static_ends» .entry)) (now («slot_offsets» .entry)) (now («slot_labels» .entry)) (now («slot_weak» .entry)) (now («static_names» .entry)) (now («static_types» .entry)) (now («static_values» .entry)) names) (partsOf (now (offsets .entry)) (now (targets .entry)) (now (labels .entry)) (now («weak_from» .entry)) (now («weak_to» .entry)) (now (roots .entry)) dangling) (lentOf (length (now (bases .entry))) (length (now (short .entry))) (length (now («long_at» .entry))) (length (now («long_value» .entry))) (length (now (fields .entry))) (length (now (table .entry))) (length (now («escape_at» .entry))) (length (now («escape_label» .entry))) (length (now (codes .entry))) (length (now (counting .entry))) (length (now (ranking .entry))))) (now (answer .exit)) (leftOf (now (bases .exit)) (now (short .exit)) (now («long_at» .exit)) (now («long_value» .exit)) (now (fields .exit)) (now (table .exit)) (now («escape_at» .exit)) (now («escape_label» .exit)) (now (codes .exit)) (now (counting .exit)) (now (ranking .exit))) ⌝ }
+    ensures { λ _. ⌜ (
+        let schema = schemaOf (classTable entry «class_ids» loaders dumped «class_kinds» «slot_starts» «slot_ends» «static_starts» «static_ends»)
+        (slotTable entry «slot_offsets» «slot_labels» «slot_weak») (staticTable entry «static_names» «static_types» «static_values») names in
+        let parts = plainColumns entry offsets targets labels «weak_from» «weak_to» roots dangling in
+        let room = codingRoom entry bases short «long_at» «long_value» fields table «escape_at» «escape_label» «edge_codes» counting ranking in
+        let left = codingLeft exit bases short «long_at» «long_value» fields table «escape_at» «escape_label» «edge_codes» counting ranking in
+        PartsTold (partsLeft schema parts room) (exit answer) left) ⌝ }
 {
     let built = from_parts::from_parts(
         class_ids,
@@ -78,7 +82,7 @@ pub extern "C" fn yokefathom_from_parts(
         table,
         escape_at,
         escape_label,
-        codes,
+        edge_codes,
         counting,
         ranking,
     );
