@@ -5,6 +5,7 @@ ghost use Prim.Native.Nat.{_≤_};
 ghost use lib.ListN.{length};
 ghost use Rattle.columns.specs.Lists.{_!_};
 ghost use Rattle.columns.specs.Columns.{accepts};
+ghost use Rattle.columns.specs.Loans.{entry, exit};
 ghost use Rattle.index.specs.Copied.{codeOf, codedSays, codingSays, escapeRows, Accepted, Laid, Filled, Emptied};
 
 // The code of an id that is kept whole in the escapes.
@@ -33,7 +34,7 @@ pub fn code_of(id: u64, base: u64) -> u32
 
 // How many escapes the ids need.
 fn count_escapes(ids: &[u64], base: u64) -> usize
-    ensures { λ r. ⌜ r ≡ escapeRows base (now (ids .entry)) ⌝ }
+    ensures { λ r. ⌜ r ≡ escapeRows base (entry ids) ⌝ }
 {
     let mut rows = 0;
     let mut i = 0;
@@ -50,7 +51,7 @@ fn count_escapes(ids: &[u64], base: u64) -> usize
 
 // The answer, from the ids and the lengths lent for the three columns.
 pub(crate) fn judge(ids: &[u64], base: u64, nc: usize, np: usize, ni: usize) -> CodedIds
-    ensures { λ r. ⌜ codedSays r ≡ codingSays base (now (ids .entry)) nc np ni ⌝ }
+    ensures { λ r. ⌜ codedSays r ≡ codingSays base (entry ids) nc np ni ⌝ }
 {
     let n = ids.len();
     if nc < n {
@@ -99,7 +100,7 @@ fn write(
     escape_ids: &mut [u64],
 )
     requires { ⌜ Accepted base (now ids) (length (now codes)) (length (now «escape_places»)) (length (now «escape_ids»)) ⌝ }
-    ensures { λ _. ⌜ Laid base (now (ids .entry)) (now (codes .entry)) (now («escape_places» .entry)) (now («escape_ids» .entry)) (now (codes .exit)) (now («escape_places» .exit)) (now («escape_ids» .exit)) ⌝ }
+    ensures { λ _. ⌜ Laid base (entry ids) (entry codes) (entry «escape_places») (entry «escape_ids») (exit codes) (exit «escape_places») (exit «escape_ids») ⌝ }
 {
     let mut k = 0;
     let mut i = 0;
@@ -129,7 +130,8 @@ pub(crate) fn write_all(
 )
     requires { ⌜ rows ≡ escapeRows base (now ids) ⌝ }
     requires { ⌜ Accepted base (now ids) (length (now codes)) (length (now «escape_places»)) (length (now «escape_ids»)) ⌝ }
-    ensures { λ _. ⌜ Filled base (now (ids .entry)) (length (now (codes .entry))) (length (now («escape_places» .entry))) (length (now («escape_ids» .entry))) (now (codes .exit)) (now («escape_places» .exit)) (now («escape_ids» .exit)) ⌝ }
+    ensures { λ _. ⌜ Filled base (entry ids) (length (entry codes)) (length (entry «escape_places»)) (length (entry «escape_ids»))
+        (exit codes) (exit «escape_places») (exit «escape_ids») ⌝ }
 {
     write(ids, base, codes, escape_places, escape_ids);
     columns::zero_u32(codes, ids.len());
@@ -138,7 +140,7 @@ pub(crate) fn write_all(
 }
 
 pub(crate) fn zero_all(codes: &mut [u32], escape_places: &mut [u64], escape_ids: &mut [u64])
-    ensures { λ _. ⌜ Emptied (length (now (codes .entry))) (length (now («escape_places» .entry))) (length (now («escape_ids» .entry))) (now (codes .exit)) (now («escape_places» .exit)) (now («escape_ids» .exit)) ⌝ }
+    ensures { λ _. ⌜ Emptied (length (entry codes)) (length (entry «escape_places»)) (length (entry «escape_ids»)) (exit codes) (exit «escape_places») (exit «escape_ids») ⌝ }
 {
     columns::zero_u32(codes, 0);
     columns::zero_u64(escape_places, 0);

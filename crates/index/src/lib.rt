@@ -5,6 +5,7 @@ mod read;
 
 ghost use mathlib.Core.Path.{_≡_};
 ghost use lib.ListN.{length};
+ghost use Rattle.columns.specs.Loans.{entry, exit};
 ghost use Rattle.index.specs.Copied.{Coding, idSays, idsOf, readBack};
 
 // What coding answers: the lengths used of codes and of escapes; or the refusal.
@@ -28,7 +29,8 @@ pub fn code_ids(
     escape_places: &mut [u64],
     escape_ids: &mut [u64],
 ) -> CodedIds
-    ensures { λ r. ⌜ Coding base (now (ids .entry)) (length (now (codes .entry))) (length (now («escape_places» .entry))) (length (now («escape_ids» .entry))) r (now (codes .exit)) (now («escape_places» .exit)) (now («escape_ids» .exit)) ⌝ }
+    ensures { λ r. ⌜ Coding base (entry ids) (length (entry codes)) (length (entry «escape_places»)) (length (entry «escape_ids»)) r (exit codes)
+        (exit «escape_places») (exit «escape_ids») ⌝ }
 {
     let r = code::judge(
         ids,
@@ -60,7 +62,7 @@ pub fn id_at(
     base: u64,
     i: usize,
 ) -> CopiedId
-    ensures { λ r. ⌜ idSays r ≡ readBack (idsOf (now (codes .entry)) (now («escape_places» .entry)) (now («escape_ids» .entry)) base) i ⌝ }
+    ensures { λ r. ⌜ idSays r ≡ readBack (idsOf (entry codes) (entry «escape_places») (entry «escape_ids») base) i ⌝ }
 {
     if codes.len() <= i {
         return CopiedId::Index(i);

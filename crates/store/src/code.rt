@@ -5,12 +5,13 @@ ghost use Prim.Native.Nat.{_≤_, _<_, _*_, _+_, min};
 ghost use lib.ListN.{length};
 ghost use Rattle.columns.specs.Lists.{_!_};
 ghost use Rattle.columns.specs.Columns.{accepts, over, zeros};
+ghost use Rattle.columns.specs.Loans.{entry, exit};
 ghost use Rattle.store.specs.Blocked.{aboveAt, firstLow, codingSays, codedSays, longRows, Accepted, Filled, basesTo, shortTo, LongWritten, Emptied};
 
 // How far the number at i is above its block's base.
 fn above(values: &[u64], i: usize) -> u64
     requires { ⌜ i < length (now values) ⌝ }
-    ensures { λ r. ⌜ r ≡ aboveAt (now (values .entry)) i ⌝ }
+    ensures { λ r. ⌜ r ≡ aboveAt (entry values) i ⌝ }
 {
     let base = values[i / 256 * 256];
     let v = values[i];
@@ -22,7 +23,7 @@ fn above(values: &[u64], i: usize) -> u64
 
 // The first place whose number is below its block's base, or the length.
 fn first_low(values: &[u64]) -> usize
-    ensures { λ r. ⌜ r ≡ firstLow (now (values .entry)) ⌝ }
+    ensures { λ r. ⌜ r ≡ firstLow (entry values) ⌝ }
 {
     let mut i = 0;
     while i < values.len() {
@@ -36,7 +37,7 @@ fn first_low(values: &[u64]) -> usize
 
 // How many rows the long list needs.
 pub fn count_long(values: &[u64]) -> usize
-    ensures { λ r. ⌜ r ≡ longRows (now (values .entry)) ⌝ }
+    ensures { λ r. ⌜ r ≡ longRows (entry values) ⌝ }
 {
     let mut rows = 0;
     let mut i = 0;
@@ -53,7 +54,7 @@ pub fn count_long(values: &[u64]) -> usize
 
 // The answer, from the numbers and the lengths lent for the four columns.
 pub(crate) fn judge(values: &[u64], nb: usize, ns: usize, na: usize, nv: usize) -> CodedOffsets
-    ensures { λ r. ⌜ codedSays r ≡ codingSays (now (values .entry)) nb ns na nv ⌝ }
+    ensures { λ r. ⌜ codedSays r ≡ codingSays (entry values) nb ns na nv ⌝ }
 {
     let n = values.len();
     if 67108865 < n {
@@ -117,7 +118,7 @@ pub(crate) fn rows_of(r: CodedOffsets) -> usize
 
 fn write_bases(values: &[u64], bases: &mut [u64], blocks: usize)
     requires { ⌜ (blocks ≤ length (now bases)) × (blocks * 256 ≤ length (now values) + 255) ⌝ }
-    ensures { λ _. ⌜ now (bases .exit) ≡ over (basesTo (now (values .entry)) blocks) (now (bases .entry)) ⌝ }
+    ensures { λ _. ⌜ exit bases ≡ over (basesTo (entry values) blocks) (entry bases) ⌝ }
 {
     let mut b = 0;
     while b < blocks {
@@ -135,7 +136,7 @@ fn short_of(d: u64) -> u16
 
 fn write_short(values: &[u64], short: &mut [u16])
     requires { ⌜ length (now values) ≤ length (now short) ⌝ }
-    ensures { λ _. ⌜ now (short .exit) ≡ over (shortTo (now (values .entry)) (length (now (values .entry)))) (now (short .entry)) ⌝ }
+    ensures { λ _. ⌜ exit short ≡ over (shortTo (entry values) (length (entry values))) (entry short) ⌝ }
 {
     let mut i = 0;
     while i < values.len() {
@@ -147,7 +148,7 @@ fn write_short(values: &[u64], short: &mut [u16])
 // The long rows, up to the last: where there are none, no number is read.
 fn write_long(values: &[u64], rows: usize, long_at: &mut [u32], long_value: &mut [u64])
     requires { ⌜ (length (now values) ≤ 67108865) × (rows ≡ longRows (now values)) × (rows ≤ length (now «long_at»)) × (rows ≤ length (now «long_value»)) ⌝ }
-    ensures { λ _. ⌜ LongWritten (now (values .entry)) (now («long_at» .entry)) (now («long_value» .entry)) (now («long_at» .exit)) (now («long_value» .exit)) ⌝ }
+    ensures { λ _. ⌜ LongWritten (entry values) (entry «long_at») (entry «long_value») (exit «long_at») (exit «long_value») ⌝ }
 {
     let mut k = 0;
     let mut i = 0;
@@ -174,7 +175,8 @@ pub fn write_all(
 )
     requires { ⌜ rows ≡ longRows (now values) ⌝ }
     requires { ⌜ Accepted (now values) (length (now bases)) (length (now short)) (length (now «long_at»)) (length (now «long_value»)) ⌝ }
-    ensures { λ _. ⌜ Filled (now (values .entry)) (length (now (bases .entry))) (length (now (short .entry))) (length (now («long_at» .entry))) (length (now («long_value» .entry))) (now (bases .exit)) (now (short .exit)) (now («long_at» .exit)) (now («long_value» .exit)) ⌝ }
+    ensures { λ _. ⌜ Filled (entry values) (length (entry bases)) (length (entry short)) (length (entry «long_at»)) (length (entry «long_value»))
+        (exit bases) (exit short) (exit «long_at») (exit «long_value») ⌝ }
 {
     let n = values.len();
     let blocks = (n + 255) / 256;
@@ -193,7 +195,8 @@ pub(crate) fn zero_all(
     long_at: &mut [u32],
     long_value: &mut [u64],
 )
-    ensures { λ _. ⌜ Emptied (length (now (bases .entry))) (length (now (short .entry))) (length (now («long_at» .entry))) (length (now («long_value» .entry))) (now (bases .exit)) (now (short .exit)) (now («long_at» .exit)) (now («long_value» .exit)) ⌝ }
+    ensures { λ _. ⌜ Emptied (length (entry bases)) (length (entry short)) (length (entry «long_at»)) (length (entry «long_value»))
+        (exit bases) (exit short) (exit «long_at») (exit «long_value») ⌝ }
 {
     columns::zero_u64(bases, 0);
     columns::zero_u16(short, 0);

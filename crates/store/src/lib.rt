@@ -4,6 +4,7 @@ mod read;
 
 ghost use mathlib.Core.Path.{_≡_};
 ghost use lib.ListN.{length};
+ghost use Rattle.columns.specs.Loans.{entry, exit};
 ghost use Rattle.store.specs.Blocked.{Coding, offsetSays, blockedOf, readBack};
 
 // What coding answers: the lengths used of bases, of short numbers and of long rows; or the refusal.
@@ -33,7 +34,8 @@ pub fn code_offsets(
     long_at: &mut [u32],
     long_value: &mut [u64],
 ) -> CodedOffsets
-    ensures { λ r. ⌜ Coding (now (values .entry)) (length (now (bases .entry))) (length (now (short .entry))) (length (now («long_at» .entry))) (length (now («long_value» .entry))) r (now (bases .exit)) (now (short .exit)) (now («long_at» .exit)) (now («long_value» .exit)) ⌝ }
+    ensures { λ r. ⌜ Coding (entry values) (length (entry bases)) (length (entry short)) (length (entry «long_at»)) (length (entry «long_value»)) r (exit bases)
+        (exit short) (exit «long_at») (exit «long_value») ⌝ }
 {
     let r = code::judge(
         values,
@@ -58,7 +60,7 @@ pub fn offset_at(
     long_value: &[u64],
     i: usize,
 ) -> Offset
-    ensures { λ r. ⌜ offsetSays r ≡ readBack (blockedOf (now (bases .entry)) (now (short .entry)) (now («long_at» .entry)) (now («long_value» .entry))) i ⌝ }
+    ensures { λ r. ⌜ offsetSays r ≡ readBack (blockedOf (entry bases) (entry short) (entry «long_at») (entry «long_value»)) i ⌝ }
 {
     if short.len() <= i {
         return Offset::Index(i);

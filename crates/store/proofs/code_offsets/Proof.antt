@@ -7,16 +7,30 @@ use Rattle.store.proofs.code_offsets.Tie as tie
 
 write-all-requires : tie.Need-write-all-requires
 write-all-requires c κs =
-    let y = sym (c .before .before .before .before .before .before .is-done .ensures) ∙ c .before .before .before .before .before .if1 .taken in
-    (c .before .before .before .before .rows-of .ensures ∙ coding-rows _ _ _ _ _ (c .before .before .before .before .before .before .before .judge .result) (c .before .before .before .before .before .before .before .judge .ensures) y, coding-accepted _ _ _ _ _ (c .before .before .before .before .before .before .before .judge .result) (c .before .before .before .before .before .before .before .judge .ensures) y)
+    let at-rows-of = c .before .before .before .before in
+    let at-if1 = at-rows-of .before in
+    let at-is-done = at-if1 .before in
+    let at-judge = at-is-done .before in
+    let y = sym (at-is-done .is-done .ensures) ∙ at-if1 .if1 .taken in (
+      at-rows-of .rows-of .ensures ∙ coding-rows _ _ _ _ _ (at-judge .judge .result) (at-judge .judge .ensures) y,
+      coding-accepted _ _ _ _ _ (at-judge .judge .result) (at-judge .judge .ensures) y,
+    )
 
 returns : tie.Need-returns
 returns c =
-    coding-done _ _ _ _ _ (c .before .before .before .before .before .before .before .before .before .before .before .before .before .before .before .before .judge .result) (c .before .before .before .before .before .before .before .before .before .before .before .before .before .before .before .before .judge .ensures) (sym (c .before .before .before .before .before .before .before .before .before .before .before .before .before .before .before .is-done .ensures) ∙ c .before .before .before .before .before .before .before .before .before .before .before .before .before .before .if1 .taken) (c .before .before .before .before .before .before .before .before .write-all .ensures)
+    let at-write-all = c .before .before .before .before .before .before .before .before in
+    let at-if1 = at-write-all .before .before .before .before .before .before in
+    let at-is-done = at-if1 .before in
+    let at-judge = at-is-done .before in
+    coding-done _ _ _ _ _ (at-judge .judge .result) (at-judge .judge .ensures) (sym (at-is-done .is-done .ensures) ∙ at-if1 .if1 .taken) (at-write-all .write-all .ensures)
 
 returns-2 : tie.Need-returns-2
 returns-2 c =
-    coding-refused _ _ _ _ _ (c .before .before .before .before .before .before .before .before .before .before .before .before .before .before .before .judge .result) (c .before .before .before .before .before .before .before .before .before .before .before .before .before .before .before .judge .ensures) (sym (c .before .before .before .before .before .before .before .before .before .before .before .before .before .before .is-done .ensures) ∙ c .before .before .before .before .before .before .before .before .before .before .before .before .before .if1 .left) (c .before .before .before .before .before .before .before .before .zero-all .ensures)
+    let at-zero-all = c .before .before .before .before .before .before .before .before in
+    let at-if1 = at-zero-all .before .before .before .before .before in
+    let at-is-done = at-if1 .before in
+    let at-judge = at-is-done .before in
+    coding-refused _ _ _ _ _ (at-judge .judge .result) (at-judge .judge .ensures) (sym (at-is-done .is-done .ensures) ∙ at-if1 .if1 .left) (at-zero-all .zero-all .ensures)
 
 pub code-offsets-spec : {M : Type 1} → statement M
 code-offsets-spec =

@@ -25,8 +25,12 @@ abbrev μ-loop : tie.MeasureT-loop
 escapes : (c : tie.Then1 Inv-loop μ-loop) → isEscape (c .before .before .before .before .before .before .before .before .before .args .base) (c .before .before .before .before .before .before .before .before .before .args .ids .now) (c .before .before .before .before .loop .i) ≡ true
 escapes c = eq-eqb _ _ (sym (c .before .code-of .ensures) ∙ c .if1 .taken)
 
-row : (c : tie.Then1 Inv-loop μ-loop) → c .before .before .before .before .loop .k < escapeRows (c .before .before .before .before .before .before .before .before .before .args .base) (c .before .before .before .before .before .before .before .before .before .args .ids .now)
-row c = omega (arith, places-row (isEscape (c .before .before .before .before .before .before .before .before .before .args .base) (c .before .before .before .before .before .before .before .before .before .args .ids .now)) (c .before .before .before .before .loop .i) (length (c .before .before .before .before .before .before .before .before .before .args .ids .now)) (escapes c) (c .before .before .before .loop-test .taken) .0)
+abbrev from-then1 : tie.Then1 Inv-loop μ-loop → tie.Start Inv-loop μ-loop
+from-then1 c =
+    c .before .before .before .before .before .before .before .before .before
+
+row : (c : tie.Then1 Inv-loop μ-loop) → c .before .before .before .before .loop .k < escapeRows (from-then1 c .args .base) (from-then1 c .args .ids .now)
+row c = omega (arith, places-row (isEscape (from-then1 c .args .base) (from-then1 c .args .ids .now)) (c .before .before .before .before .loop .i) (length (from-then1 c .args .ids .now)) (escapes c) (c .before .before .before .loop-test .taken) .0)
 
 loop-holds : tie.Need-loop-holds Inv-loop μ-loop
 unfolding tab places
@@ -49,13 +53,16 @@ add-k c = omega (arith, row c)
 
 loop-again : tie.Need-loop-again Inv-loop μ-loop
 loop-again c =
-    let a = c .before .before .before .before .before .before .before .before .before .args in
-    let w = c .before .before .before .before .loop .inv in
+    let l = c .before .before .before .before in
+    let s = l .before .before .before .before .before in
+    let a = s .args in
+    let w = l .loop .inv in
     let ids = a .ids .now in (
       search needs,
-      written-tab (λ i. codeOf (a .base) (ids ! i)) (c .before .before .before .before .loop .i) _ (w .1) (omega arith) (c .before .code-of .ensures),
-      written-hit (isEscape (a .base) ids) (λ xs. xs) (c .before .before .before .before .loop .i) (w .2) _ (escapes c) (omega (arith, row c)) refl,
-      written-hit (isEscape (a .base) ids) (map (λ i. ids ! i)) (c .before .before .before .before .loop .i) (w .3) _ (escapes c) (omega (arith, row c)) (map-append (λ i. ids ! i) (escapesTo (a .base) ids (c .before .before .before .before .loop .i)) (c .before .before .before .before .loop .i ∷ [])),
+      written-tab (λ i. codeOf (a .base) (ids ! i)) (l .loop .i) _ (w .1) (omega arith) (c .before .code-of .ensures),
+      written-hit (isEscape (a .base) ids) (λ xs. xs) (l .loop .i) (w .2) _ (escapes c) (omega (arith, row c)) refl,
+      written-hit (isEscape (a .base) ids) (map (λ i. ids ! i)) (l .loop .i) (w .3) _ (escapes c) (omega (arith, row c))
+          (map-append (λ i. ids ! i) (escapesTo (a .base) ids (l .loop .i)) (l .loop .i ∷ [])),
     )
 
 loop-again-2 : tie.Need-loop-again-2 Inv-loop μ-loop
