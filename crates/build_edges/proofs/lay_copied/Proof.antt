@@ -5,21 +5,12 @@ use mathlib.Core.Bool.{true}
 use lib.ListN.{length}
 use denote.Ref.{now}
 use Rattle.columns.specs.Columns.{accepts}
-use Rattle.rules.specs.Types.{checkedSays, builtSays}
-use Rattle.rules.specs.Input.{Input, objectCount}
+use Rattle.rules.specs.Types.{checkedSays}
+use Rattle.rules.specs.Input.{Input}
 use Rattle.rules.specs.Verdict.{checkSays}
 use Rattle.rules.specs.Tables.{objectTable, classTable, slotTable, staticTable, schemaOf, copiedRoute, inputOf}
 use Rattle.need_weak.proofs.Theorems as Pairs
 use Rattle.build_edges.proofs.Half.{fitted, told-accepts, Staged, handed, half}
-use Rattle.index.specs.Copied.{idsOf}
-use Rattle.rules.specs.Account.{noAccount}
-use Rattle.rules.specs.Needs.{needWeak, Fits}
-use Rattle.check_input.specs.Flat.{copiedInput, Fitted}
-use Rattle.need_roots.specs.Roots.{Collected}
-use Rattle.need_weak.specs.Pairs.{copiedTotal}
-use Rattle.edge_pass.specs.Stage.{Edged}
-use Rattle.build_rooms.specs.Stages.{early, roomSays}
-use Rattle.build_edges.specs.Laying.{Laying}
 use Rattle.build_edges.proofs.Asks.{copied-asked, roots-asked}
 use borrow.Author.Needs.{needs}
 use Rattle.build_edges.proofs.lay_copied.Statement.{statement}

@@ -11,13 +11,6 @@ use Rattle.rules.specs.Verdict.{checkSays}
 use Rattle.rules.specs.Tables.{objectTable, classTable, slotTable, staticTable, schemaOf, rawRoute, inputOf}
 use Rattle.need_weak.proofs.Theorems as Pairs
 use Rattle.build_edges.proofs.Half.{judged, Staged, handed, half}
-use Rattle.rules.specs.Needs.{needWeak, Fits}
-use Rattle.check_input.specs.Flat.{rawInput, Judged}
-use Rattle.need_roots.specs.Roots.{Collected}
-use Rattle.need_weak.specs.Pairs.{rawTotal}
-use Rattle.edge_pass.specs.Stage.{Edged}
-use Rattle.build_rooms.specs.Stages.{early, roomSays}
-use Rattle.build_edges.specs.Laying.{Laying}
 use Rattle.build_edges.proofs.Asks.{raw-asked, roots-asked}
 use borrow.Author.Needs.{needs}
 use Rattle.build_edges.proofs.lay_raw.Statement.{statement}
