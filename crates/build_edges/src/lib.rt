@@ -16,7 +16,6 @@ ghost use Rattle.rules.specs.Tables.{objectTable, classTable, slotTable, static
 ghost use Rattle.need_roots.specs.Roots.{Below, ClassMarks, Collected};
 ghost use Rattle.need_weak.specs.Pairs.{copiedTotal, rawTotal};
 ghost use Rattle.rules.specs.Needs.{Fits};
-ghost use Rattle.check_input.specs.Flat.{copiedInput, rawInput};
 ghost use Rattle.build_edges.specs.Laying.{Laying, CopiedAsked, RawAsked};
 
 fn passed(c: Checked) -> bool

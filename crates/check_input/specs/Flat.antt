@@ -8,7 +8,6 @@ use Rattle.columns.specs.Lists.{places}
 use Rattle.columns.specs.Columns.{zeros, accepts}
 use Rattle.rules.specs.declared.Checked.{Checked}
 use Rattle.rules.specs.Types.{checkedSays}
-use Rattle.rules.specs.declared.ReferencePolicy.{ReferencePolicy}
 use Rattle.rules.specs.Input.{Schema, Route, Route.raw, Input, objectCount, classCount}
 use Rattle.rules.specs.Tables.{objectTable, classTable, slotTable, staticTable, copiedRoute, rawRoute, schemaOf, inputOf}
 use Rattle.rules.specs.Places.{placeCount}
@@ -16,8 +15,6 @@ use Rattle.rules.specs.Verdict.{firstOf, at, once, badLengths, badLimit, badObj
 use Rattle.rules.specs.Needs.{Fits}
 use Rattle.check_tables.specs.Found.{marksIf}
 use Rattle.check_tables.specs.Reads.{noSlots, noStatics, noPolicy, noRoute}
-use Rattle.build_rooms.specs.Stages.{Fits}
-use Rattle.check_tables.specs.Lengths.{schemaOf}
 
 -- Lists are read as they are.
 abbrev own : List ℕ → List ℕ
@@ -48,28 +45,6 @@ lateColumns ids kinds classes lengths slotStart slotEnd codes escapePlaces escap
 abbrev pub lateRaw : List ℕ → List ℕ → List ℕ → List ℕ → List ℕ → List ℕ → List ℕ → ℕ → Input
 lateRaw ids kinds lengths starts bodies bytes roots size =
     inputOf (objectTable own ids kinds [] lengths) (rangesOnly [] []) (rawRoute own bytes size starts bodies) roots noPolicy
-
--- Whole inputs from lists, for contracts that do not name them by table yet.
-abbrev flatSchema : List ℕ → List ℕ → List ℕ → List ℕ → List ℕ → List ℕ → List ℕ → List ℕ → List ℕ → List ℕ → List ℕ → List ℕ → List ℕ
-    → List ℕ → ℕ → Schema
-flatSchema classIds loaders dumped classKinds slotStart slotEnd staticStart staticEnd offsets labels weak staticNames types values names =
-    schemaOf (classTable own classIds loaders dumped classKinds slotStart slotEnd staticStart staticEnd)
-    (slotTable own offsets labels weak) (staticTable own staticNames types values) names
-
-abbrev pub copiedInput : List ℕ → List ℕ → List ℕ → List ℕ → List ℕ → List ℕ → List ℕ → List ℕ → List ℕ → List ℕ → List ℕ → List ℕ → List ℕ
-    → List ℕ → List ℕ → List ℕ → List ℕ → List ℕ → ℕ → List ℕ → List ℕ → List ℕ → ℕ → List ℕ → List ℕ → ReferencePolicy → Input
-copiedInput ids kinds classes lengths classIds loaders dumped classKinds slotStart slotEnd staticStart staticEnd offsets labels weak staticNames types values names codes escapePlaces
-    escapeIds base starts roots policy =
-    inputOf (objectTable own ids kinds classes lengths)
-    (flatSchema classIds loaders dumped classKinds slotStart slotEnd staticStart staticEnd offsets labels weak staticNames types values names)
-    (copiedRoute own codes escapePlaces escapeIds base starts) roots policy
-
-abbrev pub rawInput : List ℕ → List ℕ → List ℕ → List ℕ → List ℕ → List ℕ → List ℕ → List ℕ → List ℕ → List ℕ → List ℕ → List ℕ → List ℕ
-    → List ℕ → List ℕ → List ℕ → List ℕ → List ℕ → ℕ → List ℕ → ℕ → List ℕ → List ℕ → List ℕ → ReferencePolicy → Input
-rawInput ids kinds classes lengths classIds loaders dumped classKinds slotStart slotEnd staticStart staticEnd offsets labels weak staticNames types values names bytes size starts bodies roots policy =
-    inputOf (objectTable own ids kinds classes lengths)
-    (flatSchema classIds loaders dumped classKinds slotStart slotEnd staticStart staticEnd offsets labels weak staticNames types values names)
-    (rawRoute own bytes size starts bodies) roots policy
 
 -- The faults of copied ids, parts and roots; all faults in the order of refusal but PLACES, which is tested last, of an input that has none of these.
 unfoldable pub faultsLate : Input → List (List ℕ)

@@ -6,7 +6,6 @@ ghost use Rattle.columns.specs.Lists.{total};
 ghost use Rattle.columns.specs.Loans.{entry};
 ghost use Rattle.check_ids.specs.Copying.{heldCodes};
 ghost use Rattle.check_places.specs.Placing.{partAt, PartTables, ClassTables, CodeTables, rawPlaces, copiedPlaces};
-ghost use Rattle.build_rooms.specs.Stages.{Fits};
 use check_ids::spans;
 ghost use Rattle.rules.specs.Needs.{Fits};
 use check_tables::spans;

@@ -8,7 +8,6 @@ use Rattle.rules.specs.Tables.{classTable, slotTable, staticTable, schemaOf}
 use Rattle.rules.specs.Edges.{Parts}
 use Rattle.rules.specs.Needs.{objectsOf}
 use Rattle.rules.specs.Verdict.{schemaLengths, overLimit, badClass, badSlot, badStatic, limits}
-use Rattle.check_tables.specs.Lengths.{schemaOf}
 use Rattle.check_tables.proofs.Even.{schema-dumped, schema-tables}
 use Rattle.check_parts.specs.Checks.{handed}
 use Rattle.check_parts.proofs.Handed.{pairs-even, handed-tables, handed-pairs, handed-limit, handed-class, handed-places, handed-parts}

@@ -14,7 +14,7 @@ use Rattle.rules.specs.Tables.{objectTable, classTable, slotTable, staticTable,
 use Rattle.check_tables.specs.Reads.{noPolicy}
 use Rattle.check_ids.specs.Copying.{heldCodes}
 use Rattle.check_tables.specs.Found.{marksIf, findColumns}
-use Rattle.check_input.specs.Flat.{faultsLate, copiedInput}
+use Rattle.check_input.specs.Flat.{faultsLate}
 use Rattle.check_input.proofs.Chain.{before-lengths, before-limit, before-object, before-class, before-late, refused, dumped-even, tables-even, ids-rise, finds-none}
 use Rattle.rules.specs.Verdict.{limits}
 use Rattle.rules.proofs.Even.{objects-even, copied-even}

@@ -14,7 +14,7 @@ use Rattle.rules.specs.Tables.{objectTable, classTable, slotTable, staticTable,
 use Rattle.rules.proofs.Even.{objects-even, raw-even}
 use Rattle.check_tables.specs.Reads.{noPolicy}
 use Rattle.check_tables.specs.Found.{marksIf, findColumns}
-use Rattle.check_input.specs.Flat.{faultsLate, rawInput}
+use Rattle.check_input.specs.Flat.{faultsLate}
 use Rattle.check_input.proofs.Chain.{before-lengths, before-limit, before-object, before-class, before-late, refused, dumped-even, tables-even, size-small, ids-rise, finds-none}
 use Rattle.check_tables.proofs.Even.{two-first, two-second, two-none}
 use Rattle.check_input.proofs.Narrow.{same-dumped, same-find}
