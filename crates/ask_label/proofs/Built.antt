@@ -1,10 +1,9 @@
 -- On the columns of an accepted build, or of an accepted `from_parts`, each call's answer is the same question on the edges, and 12 is never given. Assumes nothing.
-use Prim.Native.Nat.{ℕ, _-_, _^_, _≤_, _<_}
+use Prim.Native.Nat.{ℕ, _-_, _^_, _<_}
 use mathlib.Core.Path.{_≡_}
 use mathlib.Core.List.{List, _∷_}
 use lib.ListN.{length}
 use Rattle.columns.specs.Lists.{_!_}
-use Rattle.rules.specs.Types.{LOADER}
 use Rattle.rules.specs.Input.{Input, Schema, objectCount}
 use Rattle.rules.specs.Edges.{Parts, edgesOf, graph}
 use Rattle.rules.specs.Needs.{objectsOf}
@@ -19,7 +18,7 @@ use Rattle.ask_label.specs.Labelled.{edgeAsked, coarseAt, Labelled}
 use Rattle.ask_label.proofs.Labels.{coarse-promised}
 
 -- Columns that meet PARTS, as `from_parts` codes them: each call's answer is the same question on the plain columns.
-module _ (s : Schema) (p : Parts) (law : Meets (s .names) p) (small : s .names ≤ LOADER) (few : length (p .labels) < 2 ^ 64) (o : ℕ) where
+module _ (s : Schema) (p : Parts) (law : Meets (s .names) p) (few : length (p .labels) < 2 ^ 64) (o : ℕ) where
   abbrev g : Columns
   g = columnsOf s p
 

@@ -1,5 +1,5 @@
 -- On the columns of an accepted build, or of an accepted `from_parts`, each call's answer is the same question on the edges, and 12 is never given. Assumes nothing.
-use Prim.Native.Nat.{ℕ, suc, _-_, _^_, _≤_, _<_}
+use Prim.Native.Nat.{ℕ, suc, _-_, _^_, _<_}
 use native.Mathlib.Omega.{arith}
 use mathlib.Core.Path.{_≡_, ap, _∙_}
 use mathlib.Core.Bool.{false}
@@ -8,7 +8,6 @@ use lib.Dec.{eqb}
 use lib.ListN.{length}
 use Rattle.columns.specs.Lists.{_!_}
 use Rattle.columns.specs.Ranks.{rank}
-use Rattle.rules.specs.Types.{LOADER}
 use Rattle.rules.specs.Input.{Input, Schema, objectCount}
 use Rattle.rules.specs.Edges.{Parts, Edge, edgesOf, offset, graph}
 use Rattle.rules.specs.Needs.{objectsOf}
@@ -31,7 +30,7 @@ abbrev pub strong : Columns → Columns
 strong c = record { offsets = c .offsets; targets = c .targets; labels = c .labels; weakFrom = []; weakTo = [] }
 
 -- Columns that meet PARTS, as `from_parts` codes them: each call's answer is the same question on the plain columns.
-module _ (s : Schema) (p : Parts) (law : Meets (s .names) p) (small : s .names ≤ LOADER) (few : length (p .labels) < 2 ^ 64) (o : ℕ) where
+module _ (s : Schema) (p : Parts) (law : Meets (s .names) p) (few : length (p .labels) < 2 ^ 64) (o : ℕ) where
   abbrev g : Columns
   g = columnsOf s p
 
