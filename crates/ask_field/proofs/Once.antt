@@ -16,7 +16,7 @@ use Rattle.columns.proofs.Lists.{lt-or-ge}
 use Rattle.columns.proofs.Sums.{sum-sort, count-none}
 use Rattle.rules.specs.Types.{LOADER, ARRAY-ELEMENT}
 use Rattle.rules.specs.Labels.{occurring, listed, ranked, fieldsOf, fieldCode}
-use Rattle.labels.specs.Fields.{firstOf}
+use Rattle.labels.specs.Fields.{firstRanked}
 use Rattle.labels.proofs.Table.{slot-other}
 use Rattle.labels.proofs.Ranking.{occurring-rises}
 use Rattle.labels.proofs.Listed.{fields-listed, fields-ranked, fields-named}
@@ -61,7 +61,7 @@ find-once (a ∷ xs) h (suc i) l = go (eqb a (xs ! i)) refl (h (xs ! i)) (find-o
 module _ (names : ℕ) (few : names ≤ LOADER) (ns labels : List ℕ) where
   -- Listed fields rise, and ranked ones are among those that occur.
   pub fields-once : NoRepeat (fieldsOf names ns labels)
-  unfolding listed firstOf ranked
+  unfolding listed firstRanked ranked
   fields-once =
       ⊎-elim
       (λ h. rw (fields-ranked names ns labels h) (λ v. omega (arith, take-fewer v 32767 (ranked names labels), sort-once (λ a b. leb (count b labels) (count a labels)) (occurring names labels) (rises-once (occurring names labels) (occurring-rises names labels few)) v)))

@@ -11,7 +11,7 @@ use Rattle.rules.specs.Needs.{Lent}
 use Rattle.rules.specs.Built.{CodedLeft}
 use Rattle.labels.specs.Fields.{Naming}
 use Rattle.code_stages.specs.Stages.{Ready}
-use Rattle.code_columns.specs.Finished.{Coding, Hands, Finished}
+use Rattle.code_columns.specs.Finished.{PartsCoding, Hands, Finished}
 
 -- as many as there are, or all
 pub take-least : (xs : List ℕ) (a : ℕ) {r : ℕ} → r ≡ min a (length xs) → take r xs ≡ take a xs
@@ -25,5 +25,5 @@ pub ready-used : {g : Naming} {classes names : ℕ} (xs ys : List ℕ) (r a q b 
 ready-used xs ys r a q b e f h = rw (e, f) h
 
 pub coding-used : {g : Naming} {classes names : ℕ} (xs ys : List ℕ) (r a q b : ℕ) {before : List ℕ} {l : Lent} {says : List ℕ} {d : CodedLeft} → take r xs ≡ take a xs → take q ys ≡ take b ys
-    → Coding g classes names (take r xs) (take q ys) before l says d → Coding g classes names (take a xs) (take b ys) before l says d
+    → PartsCoding g classes names (take r xs) (take q ys) before l says d → PartsCoding g classes names (take a xs) (take b ys) before l says d
 coding-used xs ys r a q b e f c = λ s p h. c s p (record { named = h .named; class-count = h .class-count; name-count = h .name-count; laid-out = h .laid-out ∙ sym e; labelled = h .labelled ∙ sym f; told = h .told })

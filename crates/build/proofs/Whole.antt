@@ -22,8 +22,8 @@ use Rattle.rules.proofs.Used.{refused-coded}
 use Rattle.rules.proofs.Even.{schema-lengths}
 use Rattle.code_stages.specs.Stages.{handOn, Ready}
 use Rattle.code_columns.proofs.Readying.{ready-parts}
-use Rattle.code_columns.specs.Finished.{Coding, Hands, Finished, namingOf}
-use Rattle.build_rooms.specs.Stages.{kept, edgeSays, early, leftOf, roomsOf, Laid}
+use Rattle.code_columns.specs.Finished.{PartsCoding, Hands, Finished, namingOf}
+use Rattle.build_rooms.specs.Stages.{kept, halfSays, early, leftOf, roomsOf, Laid}
 use Rattle.build_rooms.proofs.Compose.{built-left, edge-accepts, edge-passed}
 use Rattle.build_edges.specs.Laying.{Laying}
 use Rattle.build.specs.Build.{offsetsUsed, labelsUsed, Rest}

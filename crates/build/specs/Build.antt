@@ -6,7 +6,7 @@ use Rattle.rules.specs.Needs.{Lent}
 use Rattle.rules.specs.Built.{CodedLeft}
 use Rattle.labels.specs.Fields.{Naming}
 use Rattle.code_columns.specs.Stages.{Ready, Where}
-use Rattle.code_columns.specs.Finished.{Coding}
+use Rattle.code_columns.specs.Finished.{PartsCoding}
 use Rattle.build_rooms.specs.Stages.{kept, Settled}
 
 -- the offsets of so many objects, and the labels of so many edges as an answer says, at the fronts of the work columns
@@ -25,5 +25,5 @@ pub record Rest
     (before ts ls fs ws rs wk : List ℕ) (a : List (List ℕ)) (l : Lent)
     (says ts′ ls′ fs′ ws′ rs′ wk′ : List ℕ) (a′ : List (List ℕ)) (d : CodedLeft)
     : Type 0 where
-  pub coded : Coding g classes names (offsetsUsed objects wk) (labelsUsed before ls) before l says d
+  pub coded : PartsCoding g classes names (offsetsUsed objects wk) (labelsUsed before ls) before l says d
   pub settled : Settled says ts ls fs ws rs wk a ts′ ls′ fs′ ws′ rs′ wk′ a′

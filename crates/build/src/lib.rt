@@ -5,7 +5,7 @@ ghost use mathlib.Core.Path.{_≡_};
 ghost use Prim.Native.Nat.{_+_, _≤_, min};
 ghost use Rattle.rules.specs.Types.{builtSays};
 ghost use Rattle.rules.specs.Built.{buildLeft};
-ghost use Rattle.code_columns.specs.Finished.{Coding};
+ghost use Rattle.code_columns.specs.Finished.{PartsCoding};
 ghost use Rattle.columns.specs.Loans.{entry, exit};
 ghost use Rattle.rules.specs.Tables.{objectTable, classTable, slotTable, staticTable, schemaOf, copiedRoute, rawRoute, inputOf, roomOf, codingRoom, leftIn, codingLeft};
 ghost use Rattle.labels.specs.Fields.{nameColumns};
@@ -52,7 +52,7 @@ fn code_used(
         let named = nameColumns entry «slot_starts» «slot_ends» «static_starts» «static_ends» «slot_labels» «static_names» «static_types» in
         let room = codingRoom entry bases short «long_at» «long_value» fields table «escape_at» «escape_label» «edge_codes» counting ranking in
         let left = codingLeft exit bases short «long_at» «long_value» fields table «escape_at» «escape_label» «edge_codes» counting ranking in
-        Coding named classes names (offsetsUsed objects (entry working)) (labelsUsed (builtSays v) (entry labels)) (builtSays v) room (builtSays r) left) ⌝ }
+        PartsCoding named classes names (offsetsUsed objects (entry working)) (labelsUsed (builtSays v) (entry labels)) (builtSays v) room (builtSays r) left) ⌝ }
 {
     let n = up_to(objects, working.len());
     let m = build_rooms::least(build_rooms::edges_kept(v), labels.len());

@@ -27,10 +27,10 @@ use Rattle.rules.proofs.Acceptance.{check-passed, faults-refuse}
 use Rattle.check_tables.specs.Found.{marks, marksIf, markTo, markAt}
 use Rattle.check_input.specs.Flat.{Judged, Fitted, marksLeft}
 use Rattle.need_roots.specs.Roots.{Collected}
-use Rattle.edge_append.specs.Object.{marked}
+use Rattle.edge_append.specs.Object.{markClasses}
 use Rattle.edge_pass.specs.Stage.{Handed, Edged, edgesSaid}
 use Rattle.edge_pass.proofs.Accepted.{marks-tell}
-use Rattle.build_rooms.specs.Stages.{Early, early, shortEarly, roomSays, edgesSays, edgeSays, Laid}
+use Rattle.build_rooms.specs.Stages.{Early, early, shortEarly, roomSays, edgesSays, halfSays, Laid}
 use Rattle.build_rooms.proofs.Fitting.{fits-need}
 use Rattle.build_rooms.proofs.Enough.{enough, room-accepts}
 use Rattle.build_rooms.proofs.Compose.{edge-said}
@@ -52,9 +52,9 @@ module _ (x : Input) (m : ℕ) (long : objectCount x < m) {w : List ℕ} (ok : a
       ap (λ (z : List ℕ). z ! suc o) are-marks ∙ tab-at (markAt x (classCount (x .schema))) 0 m (suc o) (omega arith)
       ∙ ap (λ (b : Bool). cond b (markTo x o (classCount (x .schema))) 0) (lt-ltb o (objectCount x) l)
 
-  pub mark-told : (o : ℕ) → o < objectCount x → marked (w ! (o + 1)) ≡ classesAt x o
+  pub mark-told : (o : ℕ) → o < objectCount x → markClasses (w ! (o + 1)) ≡ classesAt x o
   mark-told o l =
-      ap (λ (k : ℕ). marked (w ! k)) (add-one o) ∙ ap marked (mark-is o l)
+      ap (λ (k : ℕ). markClasses (w ! k)) (add-one o) ∙ ap markClasses (mark-is o l)
       ∙ marks-tell x (check-passed x ok) o l (markTo x o) refl (λ c. refl)
 
 pub mark-most : (x : Input) (o c : ℕ) → markTo x o c ≤ c

@@ -10,11 +10,11 @@ use Rattle.rules.specs.Input.{Input}
 use Rattle.edge_append.specs.Held.{SlotsIn}
 use Rattle.edge_append.specs.Raw.{BodyIn}
 use Rattle.need_weak.specs.Pairs.{ObjectsIn}
-use Rattle.build_rooms.specs.Stages.{early, edgeSays, Laid}
+use Rattle.build_rooms.specs.Stages.{early, halfSays, Laid}
 
 -- What it answers, and what it leaves where it accepts; b and s are the lengths lent for bases and short numbers.
 pub record Laying (x : Input) (b s : ℕ) (r : Built) (ts₀ ls₀ fs₀ ws₀ rs₀ wk₀ ts ls fs ws rs wk : List ℕ) (a : List (List ℕ)) : Type 0 where
-  pub answer : builtSays r ≡ edgeSays x (early (length ts₀) (length ls₀) (length fs₀) (length ws₀) (length rs₀) b s (length wk₀))
+  pub answer : builtSays r ≡ halfSays x (early (length ts₀) (length ls₀) (length fs₀) (length ws₀) (length rs₀) b s (length wk₀))
   pub laid : Laid x (builtSays r) ts₀ fs₀ ws₀ rs₀ ts ls fs ws rs wk a
 
 -- What counting weak pairs asks of the columns, all of which an accepted input has: by the copied route,

@@ -22,7 +22,7 @@ use Rattle.rules.specs.Verdict.{firstOf, at, faults, checkSays, counts, buildSa
 use Rattle.rules.specs.Built.{CodedLeft, codedLeft, BuildLeft, buildLeft}
 use Rattle.rules.proofs.Acceptance.{Refuse, refuse-append, refuse-at, at-empty, Passed, passed, faults-refuse, build-says}
 use Rattle.rules.proofs.Finished.{weak-even}
-use Rattle.build_rooms.specs.Stages.{Early, earlyOf, shortEarly, roomSays, edgesSays, edgeSays, kept, Settled, leftOf, roomsOf, Laid}
+use Rattle.build_rooms.specs.Stages.{Early, earlyOf, shortEarly, roomSays, edgesSays, halfSays, kept, Settled, leftOf, roomsOf, Laid}
 use Rattle.build_rooms.proofs.Fitting.{same-short}
 
 -- The first fault refuses.
@@ -61,8 +61,8 @@ module _ (x : Input) (e : Early) {c v r : List ℕ} (p w n : ℕ) (checked : c �
     (rooms : v ≡ roomSays c w n (objectCount x + 1) e) (edges : r ≡ edgesSays v (graph x))
   where
     -- an input that passes the checks, and one that does not
-    passes : faults x ≡ [] → r ≡ edgeSays x e
-    unfolding edgeSays edgesSays
+    passes : faults x ≡ [] → r ≡ halfSays x e
+    unfolding halfSays edgesSays
     passes none =
         let said : c ≡ 0 ∷ p ∷ [] = checked ∙ rw none in
         let ok : accepts c ≡ true = ap accepts said ∙ accepting (p ∷ []) in
@@ -72,35 +72,35 @@ module _ (x : Input) (e : Early) {c v r : List ℕ} (p w n : ℕ) (checked : c �
         let is : v ≡ firstOf (at 9 es) a = rooms ∙ rw (said, roots ok, ← offsets-are x, ← same) (room-open p w (needRoots x) (needOffsets (graph x)) e) in
         edges ∙ rw (is, none) (last-room es a (plainCounts (graph x)) (accepting _))
 
-    fails : (f : List ℕ) (fs : List (List ℕ)) → faults x ≡ f ∷ fs → r ≡ edgeSays x e
-    unfolding edgeSays
+    fails : (f : List ℕ) (fs : List (List ℕ)) → faults x ≡ f ∷ fs → r ≡ halfSays x e
+    unfolding halfSays
     fails f fs some =
         let no : accepts f ≡ false = first-refuses f fs (rw (← some) (faults-refuse x)) in
         let said : c ≡ f = checked ∙ rw some in
         let handed : v ≡ f = rooms ∙ room-handed c w n (objectCount x + 1) e (ap accepts said ∙ no) ∙ said in
         edges ∙ edges-handed v (graph x) (ap accepts handed ∙ no) ∙ handed ∙ rw some
 
-    pub edge-said : r ≡ edgeSays x e
+    pub edge-said : r ≡ halfSays x e
     edge-said = go (faults x) refl
       where
-        go : (fs : List (List ℕ)) → faults x ≡ fs → r ≡ edgeSays x e
+        go : (fs : List (List ℕ)) → faults x ≡ fs → r ≡ halfSays x e
         go [] h = passes h
         go (f ∷ fs) h = fails f fs h
 
 -- where the first half accepts, there is no fault, and the answer has the numbers of the graph
-module _ (x : Input) (e : Early) (ok : accepts (edgeSays x e) ≡ true) where
+module _ (x : Input) (e : Early) (ok : accepts (halfSays x e) ≡ true) where
   abbrev short : List ℕ
   short = shortEarly (placeCount x) (needWeak x) (needRoots x) (needOffsets (graph x)) e
 
   none-met : faults x ++ at 9 short ≡ []
-  unfolding edgeSays
+  unfolding halfSays
   none-met = refuse-append (faults-refuse x) (refuse-at 9 refl short) .none-met (plainCounts (graph x)) ok
 
   pub edge-passed : Passed x
   edge-passed = passed x (append-empty (faults x) (at 9 short) none-met .0)
 
-  pub edge-accepts : edgeSays x e ≡ plainCounts (graph x)
-  unfolding edgeSays
+  pub edge-accepts : halfSays x e ≡ plainCounts (graph x)
+  unfolding halfSays
   edge-accepts = rw none-met
 
 -- The whole: ROOM 5 to 9 behind the first half.
@@ -139,8 +139,8 @@ blocks-lent x r none =
     (two-of (ltb (r .coded .bases) (needBases (graph x))) (ltb (r .coded .short) (needOffsets (graph x))) (ltb (r .working) (needOffsets (graph x)))
     (append-empty (buffer 3 _) _ (append-empty (buffer 2 _) _ (append-empty (buffer 1 _) _ none .1) .1) .1))
 
-build-accepts : (x : Input) (r : Rooms) → accepts (edgeSays x (earlyOf r)) ≡ true → (faults x ≡ []) × (earlyFor x r ≡ [])
-unfolding edgeSays
+build-accepts : (x : Input) (r : Rooms) → accepts (halfSays x (earlyOf r)) ≡ true → (faults x ≡ []) × (earlyFor x r ≡ [])
+unfolding halfSays
 build-accepts x r h =
     let es = earlyFor x r in
     let none = append-empty (faults x) (at 9 es) (refuse-append (faults-refuse x) (refuse-at 9 refl es) .none-met (plainCounts (graph x)) h) in
@@ -151,12 +151,12 @@ build-rest : (x : Input) (r : Rooms) → (faults x ≡ []) × (earlyFor x r ≡ 
 unfolding buildSays
 build-rest x r none = rw (none .0, short-cut x r, none .1, blocks-lent x r (none .1))
 
-build-handed : (x : Input) (r : Rooms) → accepts (edgeSays x (earlyOf r)) ≡ false → buildSays x r ≡ edgeSays x (earlyOf r)
-unfolding buildSays edgeSays
+build-handed : (x : Input) (r : Rooms) → accepts (halfSays x (earlyOf r)) ≡ false → buildSays x r ≡ halfSays x (earlyOf r)
+unfolding buildSays halfSays
 build-handed x r refused = rw (short-cut x r) (first-cut (faults x) (earlyFor x r) (shortLater (x .schema) (graph x) (r .coded)) (plainCounts (graph x)) (counts (x .schema) (graph x)) (accepting _) refused)
 
 -- the answer of the whole, from that of the first half
-pub build-said : (x : Input) (r : Rooms) {before says : List ℕ} → before ≡ edgeSays x (earlyOf r)
+pub build-said : (x : Input) (r : Rooms) {before says : List ℕ} → before ≡ halfSays x (earlyOf r)
     → says ≡ cond (accepts before) (firstOf (at 9 (shortOfParts (x .schema) (graph x) (r .coded))) (counts (x .schema) (graph x))) before → says ≡ buildSays x r
 build-said x r {before} {says} first then = go (accepts before) refl
   where
@@ -215,7 +215,7 @@ first-accepts before rest {says} then ok = go (accepts before) refl
 module _
     (x : Input) (l : Lent) (ls₀ wk₀ : List ℕ) {before says ts₀ fs₀ ws₀ rs₀ ts₁ ls₁ fs₁ ws₁ rs₁ wk₁ ts ls fs ws rs wk : List ℕ} {a₁ a : List (List ℕ)} {d : CodedLeft}
     (laid : Laid x before ts₀ fs₀ ws₀ rs₀ ts₁ ls₁ fs₁ ws₁ rs₁ wk₁ a₁) (settled : Settled says ts₁ ls₁ fs₁ ws₁ rs₁ wk₁ a₁ ts ls fs ws rs wk a)
-    (first : before ≡ edgeSays x (earlyOf (roomsOf (length ts₀) (length ls₀) (length fs₀) (length ws₀) (length rs₀) (length wk₀) l)))
+    (first : before ≡ halfSays x (earlyOf (roomsOf (length ts₀) (length ls₀) (length fs₀) (length ws₀) (length rs₀) (length wk₀) l)))
     (then : says ≡ cond (accepts before) (firstOf (at 9 (shortOfParts (x .schema) (graph x) l)) (counts (x .schema) (graph x))) before)
     (coded : d ≡ codedLeft says (x .schema) (graph x) l) (tn : length ts₁ ≡ length ts₀) (ln : length ls₁ ≡ length ls₀) (fn : length fs₁ ≡ length fs₀)
     (wn : length ws₁ ≡ length ws₀) (rn : length rs₁ ≡ length rs₀) (kn : length wk₁ ≡ length wk₀)

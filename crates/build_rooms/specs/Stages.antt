@@ -55,8 +55,8 @@ unfoldable pub edgesSays : List ℕ → Parts → List ℕ
 edgesSays before p = cond (accepts before) (plainCounts p) before
 
 -- What the first half of a build answers: refusals 1 to 8, then ROOM 1 to 4.
-unfoldable pub edgeSays : Input → Early → List ℕ
-edgeSays x e =
+unfoldable pub halfSays : Input → Early → List ℕ
+halfSays x e =
     let p = graph x in
     firstOf (faults x ++ at 9 (shortEarly (placeCount x) (needWeak x) (needRoots x) (needOffsets p) e)) (plainCounts p)
 

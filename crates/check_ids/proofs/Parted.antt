@@ -9,12 +9,12 @@ use Rattle.columns.specs.Lists.{_!_}
 use Rattle.columns.proofs.Ranks.{past-end}
 use Rattle.rules.specs.Input.{slotCount, elementCount}
 use Rattle.rules.specs.Verdict.{badSpan, badPart}
-use Rattle.check_ids.specs.Spans.{slotsOf, partOf, copiedSpanFault, rawSpanFault, copiedSpans, rawSpans}
+use Rattle.check_ids.specs.Spans.{slotsOf, partLength, copiedSpanFault, rawSpanFault, copiedSpans, rawSpans}
 
 pub copied-span-fault : (kinds classes lengths starts slotStart slotEnd codes : List ℕ) (o : ℕ)
     → badSpan (copiedSpans kinds classes lengths starts slotStart slotEnd codes) o
-    ≡ copiedSpanFault (kinds ! o) (starts ! o) (partOf (kinds ! o) (classes ! o) (lengths ! o) slotStart slotEnd) (length codes)
-unfolding badSpan badPart slotCount elementCount copiedSpanFault partOf slotsOf
+    ≡ copiedSpanFault (kinds ! o) (starts ! o) (partLength (kinds ! o) (classes ! o) (lengths ! o) slotStart slotEnd) (length codes)
+unfolding badSpan badPart slotCount elementCount copiedSpanFault partLength slotsOf
 copied-span-fault kinds classes lengths starts slotStart slotEnd codes o = refl
 
 pub raw-span-fault : (kinds lengths starts bodies bytes : List ℕ) (size o : ℕ)
@@ -34,6 +34,6 @@ module _ (kind class i : ℕ) (slotStart slotEnd : List ℕ) (instance : kind �
   pub slots-past : length slotEnd ≤ i → 0 ≡ slotsOf kind class slotStart slotEnd
   slots-past l = slots-none (rw (past-end slotEnd i l) zero-le)
 
-pub part-array : (kind class len : ℕ) (slotStart slotEnd : List ℕ) → kind ≡ 1 → len ≡ partOf kind class len slotStart slotEnd
-unfolding partOf slotsOf
+pub part-array : (kind class len : ℕ) (slotStart slotEnd : List ℕ) → kind ≡ 1 → len ≡ partLength kind class len slotStart slotEnd
+unfolding partLength slotsOf
 part-array kind class len slotStart slotEnd e = rw (eq-eqb kind 1 e, ne-eqb kind 0 (λ z. omega arith)) (omega arith)

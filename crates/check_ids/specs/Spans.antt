@@ -12,8 +12,8 @@ use Rattle.check_tables.specs.Reads.{noSlots, noStatics, noPolicy}
 unfoldable pub slotsOf : ℕ → ℕ → List ℕ → List ℕ → ℕ
 slotsOf kind class slotStart slotEnd = cond (eqb kind 0) (slotEnd ! class - slotStart ! class) 0
 
-unfoldable pub partOf : ℕ → ℕ → ℕ → List ℕ → List ℕ → ℕ
-partOf kind class len slotStart slotEnd = slotsOf kind class slotStart slotEnd + cond (eqb kind 1) len 0
+unfoldable pub partLength : ℕ → ℕ → ℕ → List ℕ → List ℕ → ℕ
+partLength kind class len slotStart slotEnd = slotsOf kind class slotStart slotEnd + cond (eqb kind 1) len 0
 
 -- by the copied route, law `copied-span-fault`; by the raw route, law `raw-span-fault`
 unfoldable pub copiedSpanFault : ℕ → ℕ → ℕ → ℕ → Bool

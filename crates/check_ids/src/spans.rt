@@ -5,7 +5,7 @@ ghost use lib.ListN.{length};
 ghost use Rattle.columns.specs.Lists.{firstPlace};
 ghost use Rattle.columns.specs.Loans.{entry};
 ghost use Rattle.rules.specs.Verdict.{badSpan};
-ghost use Rattle.check_ids.specs.Spans.{slotsOf, partOf, copiedSpanFault, rawSpanFault, copiedSpans, rawSpans};
+ghost use Rattle.check_ids.specs.Spans.{slotsOf, partLength, copiedSpanFault, rawSpanFault, copiedSpans, rawSpans};
 
 // How many slots an object's class has, 0 for what is no instance.
 pub fn slots_of(kind: u8, class: u32, slot_starts: &[u32], slot_ends: &[u32]) -> u32
@@ -28,7 +28,7 @@ pub fn slots_of(kind: u8, class: u32, slot_starts: &[u32], slot_ends: &[u32]) ->
 // The length of an object's part of the codes: its slots or its elements.
 pub fn part_of(kind: u8, class: u32, len: u32, slot_starts: &[u32], slot_ends: &[u32]) -> u32
     requires { ⌜ length (now «slot_ends») ≡ length (now «slot_starts») ⌝ }
-    ensures { λ r. ⌜ r ≡ partOf kind class len (entry «slot_starts») (entry «slot_ends») ⌝ }
+    ensures { λ r. ⌜ r ≡ partLength kind class len (entry «slot_starts») (entry «slot_ends») ⌝ }
 {
     if kind == 1 {
         return len;

@@ -19,7 +19,7 @@ use Rattle.rules.specs.Verdict.{firstOf, at, once, badLengths, badLimit, badObj
 use Rattle.rules.specs.Needs.{Fits}
 use Rattle.rules.proofs.First.{first-append, first-once}
 use Rattle.check_tables.specs.Found.{findColumns, markTo, markAt, marks, marksIf}
-use Rattle.check_input.specs.Flat.{faultsLate, faultsBefore, limitSays, countedSays, Counted, allowed, marksLeft}
+use Rattle.check_input.specs.Flat.{faultsLate, faultsBefore, limitSays, countedSays, PlacesCounted, allowed, marksLeft}
 use Rattle.check_input.proofs.Narrow.{same-dumped}
 use Rattle.check_input.proofs.Sound.{before-refuse}
 
@@ -125,7 +125,7 @@ counted-before n k tested {answer} e a = go (accepts tested) refl (ap accepts (s
     go false eb h = absurd (false≢true (sym eb ∙ h))
 
 -- the same, where only so much room matters: what fits the room that is allowed is not over the limit
-pub not-counted : (tested : List ℕ) (room n : ℕ) {answer : List ℕ} → tested ≡ answer → accepts tested ≡ false → Counted tested room n answer
+pub not-counted : (tested : List ℕ) (room n : ℕ) {answer : List ℕ} → tested ≡ answer → accepts tested ≡ false → PlacesCounted tested room n answer
 not-counted tested room n e h = record { told = n; fits = fits-need room n; answer = sym e ∙ counted-not tested n n h }
 
 module _ (room n k : ℕ) where
@@ -145,7 +145,7 @@ module _ (room n k : ℕ) where
       small true e i l = l
       small false e i l = omega (arith, ltb-false 268435456 room e)
 
-  pub counted-fit : (tested : List ℕ) {r : ℕ} {answer : List ℕ} → accepts tested ≡ true → r ≡ allowed room → Fits r n k → answer ≡ limitSays k k → Counted tested room n answer
+  pub counted-fit : (tested : List ℕ) {r : ℕ} {answer : List ℕ} → accepts tested ≡ true → r ≡ allowed room → Fits r n k → answer ≡ limitSays k k → PlacesCounted tested room n answer
   unfolding countedSays
   counted-fit tested h e f a =
       let g : Fits (allowed room) n k = rw (← e) f in

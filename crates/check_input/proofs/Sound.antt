@@ -12,8 +12,8 @@ use Rattle.rules.specs.Input.{Input, Copied, Raw, Route.copied, Route.raw, obje
 use Rattle.rules.specs.Verdict.{firstOf, at, once, badLengths, badLimit, badObject, badDumped, badCopied, badSpan}
 use Rattle.rules.specs.Places.{placeCount}
 use Rattle.rules.proofs.Acceptance.{Refuse, refuse-append, refuse-at, at-empty, once-empty, Sound, ids-rise, objects-few, classes-few, slots-ordered, slots-in, statics-ordered, statics-in, class-in, copied-span, codes-good}
-use Rattle.check_ids.specs.Spans.{partOf, slotsOf}
-use Rattle.check_places.specs.Placing.{Ranges, ClassTables, PartTables, CodeTables, Stands, rawPlaces, copiedPlaces}
+use Rattle.check_ids.specs.Spans.{partLength, slotsOf}
+use Rattle.check_places.specs.Placing.{RangesIn, ClassTables, PartTables, CodeTables, PartStands, rawPlaces, copiedPlaces}
 use Rattle.rules.proofs.Even.{objects-even, copied-even, input-even}
 use Rattle.check_places.proofs.Routes.{raw-placed, copied-placed}
 use Rattle.check_input.specs.Flat.{faultsLate, faultsBefore}
@@ -96,7 +96,7 @@ module _ (x : Input) (h : Sound x) where
   -- and on the copied route.
   module _ (d : Copied) (e : x .route ≡ copied d) where
     pub code-tables : CodeTables (x .objects .kinds) (x .objects .classes) (x .objects .lengths) (x .schema .classes .kinds) (x .schema .classes .slotStart) (x .schema .classes .slotEnd) (x .schema .slots .weak) (d .ids .codes) (d .starts)
-    unfolding partOf slotsOf slotCount elementCount
+    unfolding partLength slotsOf slotCount elementCount
     code-tables =
         let t = tables-even x (h .lengths) in
         let o = objects-even x (h .lengths) in

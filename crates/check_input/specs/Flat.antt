@@ -63,7 +63,7 @@ unfoldable pub countedSays : List ℕ → ℕ → ℕ → List ℕ
 countedSays tested n told = cond (accepts tested) (limitSays n told) tested
 
 -- the same, where only so much room matters
-pub record Counted (tested : List ℕ) (room n : ℕ) (says : List ℕ) : Type 0 where
+pub record PlacesCounted (tested : List ℕ) (room n : ℕ) (says : List ℕ) : Type 0 where
   pub told : ℕ
   pub fits : Fits room n told
   pub answer : says ≡ countedSays tested n told

@@ -8,7 +8,7 @@ ghost use Rattle.columns.specs.Loans.{entry, exit};
 ghost use Rattle.rules.specs.Types.{checkedSays};
 ghost use Rattle.check_ids.specs.Copying.{heldCodes};
 ghost use Rattle.check_places.specs.Placing.{ClassTables, PartTables, CodeTables, rawPlaces, copiedPlaces};
-ghost use Rattle.check_input.specs.Flat.{limitSays, countedSays, Counted, allowed};
+ghost use Rattle.check_input.specs.Flat.{limitSays, countedSays, PlacesCounted, allowed};
 use rules::Checked;
 use rules::ReferencePolicy;
 use rules::Refusal;
@@ -85,7 +85,7 @@ pub(crate) fn count_copied(
         (entry «class_ids») (entry loaders) (entry dumped) (entry «class_kinds»)
         (entry «slot_starts») (entry «slot_ends») (entry «static_starts») (entry «static_ends»)
         (entry «slot_weak») (entry «static_types») (entry «static_values») (entry codes) (entry starts) policy in
-        Counted (checkedSays tested) room n (checkedSays r)) ⌝ }
+        PlacesCounted (checkedSays tested) room n (checkedSays r)) ⌝ }
 {
     match tested {
         Checked::Refused(why) => Checked::Refused(why),

@@ -8,7 +8,7 @@ use Rattle.rules.specs.Input.{Schema}
 use Rattle.rules.specs.Edges.{Parts}
 use Rattle.rules.specs.Parts.{handedSays}
 use Rattle.rules.proofs.Types.{one-checked}
-use Rattle.rules.proofs.Handed.{Passed, handed-passed, handed-refuse}
+use Rattle.rules.proofs.Handed.{HandedPassed, handed-passed, handed-refuse}
 
 module _ (s : Schema) (p : Parts) (r : Checked) (e : checkedSays r ≡ handedSays s p) where
   -- ONE OUTCOME.
@@ -16,6 +16,6 @@ module _ (s : Schema) (p : Parts) (r : Checked) (e : checkedSays r ≡ handedSay
   one-check r′ e′ = one-checked r r′ (e ∙ sym e′)
 
   -- Parts that are accepted have passed every test: what the steps of `from_parts` go by.
-  pub accepted-passed : accepts (checkedSays r) ≡ true → Passed s p
+  pub accepted-passed : accepts (checkedSays r) ≡ true → HandedPassed s p
   unfolding handedSays
   accepted-passed y = handed-passed s p (handed-refuse s p .none-met _ (sym (ap accepts e) ∙ y))

@@ -15,39 +15,39 @@ use Rattle.rules.specs.declared.ReferencePolicy.{ReferencePolicy}
 use Rattle.rules.specs.Types.{keeps}
 use Rattle.check_ids.specs.Copying.{heldCodes}
 use Rattle.check_tables.specs.Found.{placeFor}
-use Rattle.check_ids.specs.Spans.{partOf, slotsOf}
-use Rattle.check_places.specs.Placing.{partAt, slotHeld, slotAt, codeAt, objectPlaces, heldAt, isHeld, staticHeld, staticAt, classPlaces, copiedPlaces, codesIn, mostPlaces, CodeTables, PartsIn}
+use Rattle.check_ids.specs.Spans.{partLength, slotsOf}
+use Rattle.check_places.specs.Placing.{partAt, slotHeld, oneSlot, oneCode, objectPlaces, heldAt, isHeld, staticHeld, oneStatic, classPlaces, copiedPlaces, codesIn, mostPlaces, CodeTables, PartsIn}
 
 -- the codes up to the end of a range: those before it, and its own
-codes-cut : (codes : List ℕ) (a n : ℕ) → total (codeAt codes 0) (a + n) ≡ total (codeAt codes 0) a + total (codeAt codes a) n
+codes-cut : (codes : List ℕ) (a n : ℕ) → total (oneCode codes 0) (a + n) ≡ total (oneCode codes 0) a + total (oneCode codes a) n
 codes-cut codes a zero = rw (add-zero a) (sym (add-zero _))
 codes-cut codes a (suc n) = rw (add-suc a n, zero-add (a + n)) (omega (arith, codes-cut codes a n))
 
-codes-mono : (codes : List ℕ) (a b : ℕ) → a ≤ b → total (codeAt codes 0) a ≤ total (codeAt codes 0) b
-codes-mono codes a b l = let e : b ≡ a + (b - a) = omega arith in rw e (total-le-total (codeAt codes 0) a (b - a))
+codes-mono : (codes : List ℕ) (a b : ℕ) → a ≤ b → total (oneCode codes 0) a ≤ total (oneCode codes 0) b
+codes-mono codes a b l = let e : b ≡ a + (b - a) = omega arith in rw e (total-le-total (oneCode codes 0) a (b - a))
 
 -- one object more: its part is empty, or stands behind the parts before
-module _ (kinds classes lengths slotStart slotEnd codes starts : List ℕ) (o e : ℕ) (w : total (codesIn kinds classes lengths slotStart slotEnd codes starts) o ≤ total (codeAt codes 0) e) where
+module _ (kinds classes lengths slotStart slotEnd codes starts : List ℕ) (o e : ℕ) (w : total (codesIn kinds classes lengths slotStart slotEnd codes starts) o ≤ total (oneCode codes 0) e) where
   pub part-empty : {part : ℕ} → part ≡ partAt kinds classes lengths slotStart slotEnd o → part ≡ 0
-      → total (codesIn kinds classes lengths slotStart slotEnd codes starts) (o + 1) ≤ total (codeAt codes 0) e
+      → total (codesIn kinds classes lengths slotStart slotEnd codes starts) (o + 1) ≤ total (oneCode codes 0) e
   part-empty p z = rw (add-one o, ← p, z) (omega arith)
 
   pub part-behind : {part start n : ℕ} → part ≡ partAt kinds classes lengths slotStart slotEnd o → start ≡ starts ! o → n ≡ part → e ≤ start
-      → total (codesIn kinds classes lengths slotStart slotEnd codes starts) (o + 1) ≤ total (codeAt codes 0) (start + n)
+      → total (codesIn kinds classes lengths slotStart slotEnd codes starts) (o + 1) ≤ total (oneCode codes 0) (start + n)
   part-behind {part} {start} p s q l = rw (add-one o, q, ← p, ← s) (omega (arith, codes-cut codes start part, codes-mono codes e start l))
 
 -- at the end
-all-codes : (codes : List ℕ) → total (codeAt codes 0) (length codes) ≡ heldCodes codes
+all-codes : (codes : List ℕ) → total (oneCode codes 0) (length codes) ≡ heldCodes codes
 unfolding heldCodes
 all-codes codes = total-ext _ _ (length codes) (λ k l. rw (zero-add k))
 
-pub parts-end : (f : ℕ → ℕ) (codes : List ℕ) (n o e : ℕ) → o ≤ n → n ≤ o → e ≤ length codes → total f o ≤ total (codeAt codes 0) e → total f n ≤ heldCodes codes
+pub parts-end : (f : ℕ → ℕ) (codes : List ℕ) (n o e : ℕ) → o ≤ n → n ≤ o → e ≤ length codes → total f o ≤ total (oneCode codes 0) e → total f n ≤ heldCodes codes
 parts-end f codes n o e l m b w = let q : n ≡ o = omega arith in rw q (omega (arith, w, codes-mono codes e (length codes) b, all-codes codes))
 
 -- a part that is not empty is an instance's or an array's, and stands within the codes
 module _ {kinds classes lengths slotStart slotEnd starts : List ℕ} {n : ℕ} (h : PartsIn kinds classes lengths slotStart slotEnd starts n) (o : ℕ) (l : o < length kinds) where
-  has-part : (kind class len : ℕ) → (partOf kind class len slotStart slotEnd ≡ 0 → ⊥) → kind < 2
-  unfolding partOf slotsOf
+  has-part : (kind class len : ℕ) → (partLength kind class len slotStart slotEnd ≡ 0 → ⊥) → kind < 2
+  unfolding partLength slotsOf
   has-part kind class len f = go (eqb kind 0) refl (eqb kind 1) refl
     where
       go : (a : Bool) → eqb kind 0 ≡ a → (b : Bool) → eqb kind 1 ≡ b → kind < 2
@@ -65,22 +65,22 @@ slot-least true true = omega arith
 slot-least true false = omega arith
 slot-least false z = zero-le
 
-slots-least : (codes weak : List ℕ) (kept : Bool) (start first n : ℕ) → total (slotAt codes weak kept start first) n ≤ total (codeAt codes start) n
+slots-least : (codes weak : List ℕ) (kept : Bool) (start first n : ℕ) → total (oneSlot codes weak kept start first) n ≤ total (oneCode codes start) n
 unfolding slotHeld
 slots-least codes weak kept start first n = total-le _ _ n (λ k l. slot-least (anyOf (not (eqb (weak ! (first + k)) 1) ∷ kept ∷ [])) (eqb (codes ! (start + k)) 0))
 
 object-least : (classKinds slotStart slotEnd weak codes : List ℕ) (policy : ReferencePolicy) (kind class len start : ℕ)
-    → objectPlaces classKinds slotStart slotEnd weak codes policy kind class len start ≤ total (codeAt codes start) (partOf kind class len slotStart slotEnd)
-unfolding objectPlaces partOf slotsOf
+    → objectPlaces classKinds slotStart slotEnd weak codes policy kind class len start ≤ total (oneCode codes start) (partLength kind class len slotStart slotEnd)
+unfolding objectPlaces partLength slotsOf
 object-least classKinds slotStart slotEnd weak codes policy kind class len start = go (eqb kind 0) refl (eqb kind 1) refl
   where
     n : ℕ
     n = slotEnd ! class - slotStart ! class
 
     s : ℕ
-    s = total (slotAt codes weak (keeps policy (classKinds ! class)) start (slotStart ! class)) n
+    s = total (oneSlot codes weak (keeps policy (classKinds ! class)) start (slotStart ! class)) n
 
-    go : (a : Bool) → eqb kind 0 ≡ a → (b : Bool) → eqb kind 1 ≡ b → cond a s 0 + cond b (total (codeAt codes start) len) 0 ≤ total (codeAt codes start) (cond a n 0 + cond b len 0)
+    go : (a : Bool) → eqb kind 0 ≡ a → (b : Bool) → eqb kind 1 ≡ b → cond a s 0 + cond b (total (oneCode codes start) len) 0 ≤ total (oneCode codes start) (cond a n 0 + cond b len 0)
     go true e true d = absurd (omega (arith, eqb-true kind 0 e, eqb-true kind 1 d))
     go true e false d = rw (add-zero s, add-zero n) (slots-least codes weak (keeps policy (classKinds ! class)) start (slotStart ! class) n)
     go false e true d = rw (zero-add len) (omega arith)
@@ -101,7 +101,7 @@ both-most true false e = zero-le
 both-most false b e = zero-le
 
 module _ (ids classIds loaders dumped staticStart staticEnd types values : List ℕ) where
-  statics-most : (from n : ℕ) → total (staticAt false ids types values from) n ≤ total (staticAt true ids types values from) n
+  statics-most : (from n : ℕ) → total (oneStatic false ids types values from) n ≤ total (oneStatic true ids types values from) n
   unfolding staticHeld
   statics-most from n = total-le _ _ n (λ k l. both-most (eqb (types ! (from + k)) 2) (isHeld false ids (values ! (from + k))) (held-most ids (values ! (from + k))))
 
@@ -110,7 +110,7 @@ module _ (ids classIds loaders dumped staticStart staticEnd types values : List 
   class-most c = go (ltb (placeFor ids (classIds ! c) (dumped ! c)) (length ids))
     where
       places : Bool → ℕ
-      places every = total (staticAt every ids types values (staticStart ! c)) (staticEnd ! c - staticStart ! c) + one (isHeld every ids (loaders ! c))
+      places every = total (oneStatic every ids types values (staticStart ! c)) (staticEnd ! c - staticStart ! c) + one (isHeld every ids (loaders ! c))
 
       go : (b : Bool) → cond b (places false) 0 ≤ cond b (places true) 0
       go true =

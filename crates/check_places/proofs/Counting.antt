@@ -13,10 +13,10 @@ use Rattle.columns.proofs.Counts.{ones-few}
 use Rattle.rules.specs.declared.ReferencePolicy.{ReferencePolicy}
 use Rattle.rules.specs.Types.{keeps}
 use Rattle.check_tables.specs.Found.{placeFor}
-use Rattle.check_ids.specs.Spans.{partOf}
+use Rattle.check_ids.specs.Spans.{partLength}
 use Rattle.check_tables.proofs.Even.{two-first, two-second, two-none}
 use Rattle.check_ids.proofs.Parted.{part-array, slots-some}
-use Rattle.check_places.specs.Placing.{slotHeld, slotAt, codeAt, objectPlaces, isHeld, staticHeld, staticAt, classPlaces, Stands}
+use Rattle.check_places.specs.Placing.{slotHeld, oneSlot, oneCode, objectPlaces, isHeld, staticHeld, oneStatic, classPlaces, PartStands}
 
 -- the second of two tests, where the first holds
 pub rest-of : (a b : Bool) → a ≡ true → allOf (a ∷ b ∷ []) ≡ b
@@ -41,7 +41,7 @@ module _ (kept : Bool) (weak code : ℕ) where
 
 -- one object, by its kind
 module _ (classKinds slotStart slotEnd weak codes : List ℕ) (policy : ReferencePolicy) (kind class len start : ℕ) where
-  pub places-array : {at n r : ℕ} → kind ≡ 1 → at ≡ start → n ≡ len → r ≡ total (codeAt codes at) n
+  pub places-array : {at n r : ℕ} → kind ≡ 1 → at ≡ start → n ≡ len → r ≡ total (oneCode codes at) n
       → r ≡ objectPlaces classKinds slotStart slotEnd weak codes policy kind class len start
   unfolding objectPlaces
   places-array k a l e = rw (e, a, l, eq-eqb kind 1 k, ne-eqb kind 0 (λ z. omega arith)) (omega arith)
@@ -51,17 +51,17 @@ module _ (classKinds slotStart slotEnd weak codes : List ℕ) (policy : Referenc
   places-other k = rw (ne-eqb kind 1 (λ z. omega arith), ne-eqb kind 0 (λ z. omega arith))
 
   pub places-instance : {c at first end r : ℕ} {kept : Bool} → kind ≡ 0 → c ≡ class → at ≡ start → first ≡ slotStart ! c → end ≡ slotEnd ! c
-      → kept ≡ keeps policy (classKinds ! c) → r ≡ total (slotAt codes weak kept at first) (end - first)
+      → kept ≡ keeps policy (classKinds ! c) → r ≡ total (oneSlot codes weak kept at first) (end - first)
       → r ≡ objectPlaces classKinds slotStart slotEnd weak codes policy kind class len start
   unfolding objectPlaces
   places-instance k i a f d p e = rw (e, p, d, f, a, i, eq-eqb kind 0 k, ne-eqb kind 1 (λ z. omega arith)) (omega arith)
 
-module _ {classKinds slotStart slotEnd weak codes : List ℕ} {kind class len start : ℕ} (h : Stands classKinds slotStart slotEnd weak codes kind class len start) where
+module _ {classKinds slotStart slotEnd weak codes : List ℕ} {kind class len start : ℕ} (h : PartStands classKinds slotStart slotEnd weak codes kind class len start) where
   pub array-span : kind ≡ 1 → start + len ≤ length codes
   array-span k = omega (arith, h .span (omega arith), part-array kind class len slotStart slotEnd k)
 
-  instance-part : {c : ℕ} → kind ≡ 0 → c ≡ class → slotEnd ! c - slotStart ! c ≡ partOf kind class len slotStart slotEnd
-  unfolding partOf
+  instance-part : {c : ℕ} → kind ≡ 0 → c ≡ class → slotEnd ! c - slotStart ! c ≡ partLength kind class len slotStart slotEnd
+  unfolding partLength
   instance-part {c} k e = slots-some kind class c slotStart slotEnd k e ∙ rw (ne-eqb kind 1 (λ z. omega arith)) (omega arith)
 
   pub instance-span : {c : ℕ} → kind ≡ 0 → c ≡ class → start + (slotEnd ! c - slotStart ! c) ≤ length codes
@@ -94,13 +94,13 @@ module _ (every : Bool) (ids : List ℕ) (type value : ℕ) where
   unfolding staticHeld allOf
   static-other h = rw (ne-eqb type 2 h)
 
-pub statics-small : (every : Bool) (ids types values : List ℕ) (from to : ℕ) → total (staticAt every ids types values from) (to - from) ≤ to
+pub statics-small : (every : Bool) (ids types values : List ℕ) (from to : ℕ) → total (oneStatic every ids types values from) (to - from) ≤ to
 statics-small every ids types values from to =
     omega (arith, ones-few (λ k. staticHeld every ids (types ! (from + k)) (values ! (from + k))) (to - from))
 
 -- a class, by whether it is found
 module _ (every : Bool) (ids classIds loaders dumped staticStart staticEnd types values : List ℕ) (c : ℕ) {o : ℕ} (eo : o ≡ placeFor ids (classIds ! c) (dumped ! c)) where
-  pub places-found : {from to s l : ℕ} → o < length ids → from ≡ staticStart ! c → to ≡ staticEnd ! c → s ≡ total (staticAt every ids types values from) (to - from)
+  pub places-found : {from to s l : ℕ} → o < length ids → from ≡ staticStart ! c → to ≡ staticEnd ! c → s ≡ total (oneStatic every ids types values from) (to - from)
       → l ≡ one (isHeld every ids (loaders ! c)) → s + l ≡ classPlaces every ids classIds loaders dumped staticStart staticEnd types values c
   unfolding classPlaces
   places-found k f t e d = rw (← eo, lt-ltb o (length ids) k, e, d, f, t)

@@ -18,7 +18,7 @@ use Rattle.rules.specs.Input.{Input, Schema, Route, Route.copied, Route.raw, ob
 use Rattle.rules.specs.Edges.{Edge, Ref, slotRef, elementRef, staticRef, loaderRef, staticRefs, classRefs, slotRefs, otherRefs}
 use Rattle.rules.specs.Places.{refPlace, hasPlace, unread, placesOf, placeCount}
 use Rattle.check_tables.proofs.Marks.{place, not-found, found-there}
-use Rattle.check_places.specs.Placing.{isHeld, staticHeld, staticAt}
+use Rattle.check_places.specs.Placing.{isHeld, staticHeld, oneStatic}
 
 -- sums of sums, either way round
 pub total-swap : (g : ℕ → ℕ → ℕ) (n m : ℕ) → total (λ i. total (g i) m) n ≡ total (λ j. total (λ i. g i j) n) m
@@ -137,7 +137,7 @@ module _ (x : Input) (c : ℕ) where
   every = everyOne (x .route)
 
   static-sum : (k : ℕ) → sum (placed x) (staticRefs (x .schema) c k)
-      ≡ staticAt every (x .objects .ids) (x .schema .statics .types) (x .schema .statics .values) (x .schema .classes .staticStart ! c) k
+      ≡ oneStatic every (x .objects .ids) (x .schema .statics .types) (x .schema .statics .values) (x .schema .classes .staticStart ! c) k
   unfolding staticRefs staticHeld staticRef allOf
   static-sum k = go (isObjectStatic (x .schema) c k) (static-held (x .objects .ids) (x .schema) c (x .route) k)
     where
@@ -151,7 +151,7 @@ module _ (x : Input) (c : ℕ) where
       go false e = refl
 
   pub class-sum : sum (placed x) (classRefs (x .schema) c)
-      ≡ total (staticAt every (x .objects .ids) (x .schema .statics .types) (x .schema .statics .values) (x .schema .classes .staticStart ! c)) (staticTotal (x .schema) c)
+      ≡ total (oneStatic every (x .objects .ids) (x .schema .statics .types) (x .schema .statics .values) (x .schema .classes .staticStart ! c)) (staticTotal (x .schema) c)
       + one (isHeld every (x .objects .ids) (x .schema .classes .loaders ! c))
   unfolding classRefs loaderRef
   class-sum =
@@ -164,7 +164,7 @@ pub all-placed : (x : Input) → Rises (x .objects .ids) → (every : Bool) → 
     ≡ total (own x) (objectCount x)
     + total
     (λ c. cond (ltb (place x c) (objectCount x))
-    (total (staticAt every (x .objects .ids) (x .schema .statics .types) (x .schema .statics .values) (x .schema .classes .staticStart ! c)) (staticTotal (x .schema) c)
+    (total (oneStatic every (x .objects .ids) (x .schema .statics .types) (x .schema .statics .values) (x .schema .classes .staticStart ! c)) (staticTotal (x .schema) c)
     + one (isHeld every (x .objects .ids) (x .schema .classes .loaders ! c))) 0) (classCount (x .schema))
 all-placed x rise every e =
     place-count x rise

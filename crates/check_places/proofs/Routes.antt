@@ -18,8 +18,8 @@ use Rattle.rules.specs.Input.{Input, Copied, Raw, Route.copied, Route.raw, obje
 use Rattle.rules.specs.Verdict.{badCode}
 use Rattle.rules.specs.Edges.{Ref, slotRef, elementRef}
 use Rattle.rules.specs.Places.{hasPlace, unread, placeCount}
-use Rattle.check_ids.specs.Spans.{partOf, slotsOf}
-use Rattle.check_places.specs.Placing.{slotHeld, slotAt, codeAt, objectPlaces, classPlaces, rawPlaces, copiedPlaces}
+use Rattle.check_ids.specs.Spans.{partLength, slotsOf}
+use Rattle.check_places.specs.Placing.{slotHeld, oneSlot, oneCode, objectPlaces, classPlaces, rawPlaces, copiedPlaces}
 use Rattle.check_places.proofs.Placed.{everyOne, own, placed, all-placed}
 
 total-ones : (f : ℕ → ℕ) (n : ℕ) → ((k : ℕ) → f k ≡ 1) → total f n ≡ n
@@ -45,7 +45,7 @@ module _ (x : Input) (r : Raw) (e : x .route ≡ raw r) where
   pub raw-placed : Rises (x .objects .ids) → length (x .objects .kinds) ≡ objectCount x →
       let k = x .schema .classes in
       placeCount x ≡ rawPlaces (x .objects .ids) (x .objects .kinds) (x .objects .classes) (x .objects .lengths) (k .ids) (k .loaders) (k .dumped) (k .slotStart) (k .slotEnd) (k .staticStart) (k .staticEnd) (x .schema .statics .types) (x .schema .statics .values)
-  unfolding rawPlaces partOf slotsOf slotCount elementCount classPlaces
+  unfolding rawPlaces partLength slotsOf slotCount elementCount classPlaces
   raw-placed rise even =
       all-placed x rise true (ap everyOne e)
       ∙ rw even (ap₂ _+_ (total-ext (own x) _ (objectCount x) (λ o l. raw-own o)) refl)
@@ -109,13 +109,13 @@ module _ (x : Input) (c : Copied) (e : x .route ≡ copied c) (good : (p : ℕ) 
     slot-test false false z = refl
 
     slot-one : placed x (slotRef x o k)
-        ≡ slotAt (c .ids .codes) (x .schema .slots .weak) (keeps (x .policy) (x .schema .classes .kinds ! classOf x o)) (c .starts ! o) (x .schema .classes .slotStart ! classOf x o) k
+        ≡ oneSlot (c .ids .codes) (x .schema .slots .weak) (keeps (x .policy) (x .schema .classes .kinds ! classOf x o)) (c .starts ! o) (x .schema .classes .slotStart ! classOf x o) k
     unfolding hasPlace slotRef slotKept slotId idAt slotHeld
     slot-one =
         rw (e, code-zero (c .ids) (c .starts ! o + k) (good _ l))
         (ap one (slot-test (not (eqb (x .schema .slots .weak ! (x .schema .classes .slotStart ! classOf x o + k)) 1)) (keeps (x .policy) (x .schema .classes .kinds ! classOf x o)) (eqb (c .ids .codes ! (c .starts ! o + k)) 0)))
 
-    element-one : placed x (elementRef x o k) ≡ codeAt (c .ids .codes) (c .starts ! o) k
+    element-one : placed x (elementRef x o k) ≡ oneCode (c .ids .codes) (c .starts ! o) k
     unfolding hasPlace elementRef elementId idAt
     element-one = rw (e, code-zero (c .ids) (c .starts ! o + k) (good _ l))
 

@@ -10,29 +10,29 @@ use Rattle.columns.specs.Lists.{_!_, one, total, find, found, allOf, anyOf}
 use Rattle.columns.specs.Ranks.{Rises}
 use Rattle.rules.specs.declared.ReferencePolicy.{ReferencePolicy}
 use Rattle.rules.specs.Types.{keeps}
-use Rattle.check_ids.specs.Spans.{partOf}
+use Rattle.check_ids.specs.Spans.{partLength}
 use Rattle.check_tables.specs.Found.{placeFor}
 
 -- "Raw counts every slot, every element": an object's part, the rules `slotCount` and `elementCount`, by the law `raw-own`
 abbrev pub partAt : List ℕ → List ℕ → List ℕ → List ℕ → List ℕ → ℕ → ℕ
-partAt kinds classes lengths slotStart slotEnd o = partOf (kinds ! o) (classes ! o) (lengths ! o) slotStart slotEnd
+partAt kinds classes lengths slotStart slotEnd o = partLength (kinds ! o) (classes ! o) (lengths ! o) slotStart slotEnd
 
 -- "Copied counts kept non-zero slots, non-zero elements": the rule `takes` of one slot (law `slot-one`) and of one element (law `element-one`);
 -- a code is 0 where the id is (law `code-zero`).
 unfoldable pub slotHeld : Bool → ℕ → ℕ → Bool
 slotHeld kept weak code = allOf (anyOf (not (eqb weak 1) ∷ kept ∷ []) ∷ not (eqb code 0) ∷ [])
 
-abbrev pub slotAt : List ℕ → List ℕ → Bool → ℕ → ℕ → ℕ → ℕ
-slotAt codes weak kept start first k = one (slotHeld kept (weak ! (first + k)) (codes ! (start + k)))
+abbrev pub oneSlot : List ℕ → List ℕ → Bool → ℕ → ℕ → ℕ → ℕ
+oneSlot codes weak kept start first k = one (slotHeld kept (weak ! (first + k)) (codes ! (start + k)))
 
-abbrev pub codeAt : List ℕ → ℕ → ℕ → ℕ
-codeAt codes start k = one (not (eqb (codes ! (start + k)) 0))
+abbrev pub oneCode : List ℕ → ℕ → ℕ → ℕ
+oneCode codes start k = one (not (eqb (codes ! (start + k)) 0))
 
 -- The places of an object's own slots and elements in the rule `placesOf`: law `copied-own`.
 unfoldable pub objectPlaces : List ℕ → List ℕ → List ℕ → List ℕ → List ℕ → ReferencePolicy → ℕ → ℕ → ℕ → ℕ → ℕ
 objectPlaces classKinds slotStart slotEnd weak codes policy kind class len start =
-    cond (eqb kind 0) (total (slotAt codes weak (keeps policy (classKinds ! class)) start (slotStart ! class)) (slotEnd ! class - slotStart ! class)) 0
-    + cond (eqb kind 1) (total (codeAt codes start) len) 0
+    cond (eqb kind 0) (total (oneSlot codes weak (keeps policy (classKinds ! class)) start (slotStart ! class)) (slotEnd ! class - slotStart ! class)) 0
+    + cond (eqb kind 1) (total (oneCode codes start) len) 0
 
 abbrev pub heldAt : List ℕ → List ℕ → List ℕ → List ℕ → List ℕ → List ℕ → List ℕ → List ℕ → List ℕ → ReferencePolicy → ℕ → ℕ
 heldAt kinds classes lengths classKinds slotStart slotEnd weak codes starts policy o =
@@ -46,14 +46,14 @@ isHeld every ids id = anyOf (every ∷ allOf (not (eqb id 0) ∷ found (find ids
 unfoldable pub staticHeld : Bool → List ℕ → ℕ → ℕ → Bool
 staticHeld every ids type value = allOf (eqb type 2 ∷ isHeld every ids value ∷ [])
 
-abbrev pub staticAt : Bool → List ℕ → List ℕ → List ℕ → ℕ → ℕ → ℕ
-staticAt every ids types values from k = one (staticHeld every ids (types ! (from + k)) (values ! (from + k)))
+abbrev pub oneStatic : Bool → List ℕ → List ℕ → List ℕ → ℕ → ℕ → ℕ
+oneStatic every ids types values from k = one (staticHeld every ids (types ! (from + k)) (values ! (from + k)))
 
 -- those of class c, if it is found: the rule `classRefs`, by the laws `static-sum` and `class-sum`
 unfoldable pub classPlaces : Bool → List ℕ → List ℕ → List ℕ → List ℕ → List ℕ → List ℕ → List ℕ → List ℕ → ℕ → ℕ
 classPlaces every ids classIds loaders dumped staticStart staticEnd types values c =
     cond (ltb (placeFor ids (classIds ! c) (dumped ! c)) (length ids))
-    (total (staticAt every ids types values (staticStart ! c)) (staticEnd ! c - staticStart ! c) + one (isHeld every ids (loaders ! c))) 0
+    (total (oneStatic every ids types values (staticStart ! c)) (staticEnd ! c - staticStart ! c) + one (isHeld every ids (loaders ! c))) 0
 
 -- The rule `placeCount` by the raw route, law `raw-placed`, and by the copied route, law `copied-placed`.
 unfoldable pub rawPlaces : List ℕ → List ℕ → List ℕ → List ℕ → List ℕ → List ℕ → List ℕ → List ℕ → List ℕ → List ℕ → List ℕ → List ℕ → List ℕ → ℕ
@@ -70,7 +70,7 @@ copiedPlaces ids kinds classes lengths classIds loaders dumped classKinds slotSt
 -- No more than these, which no rule names: the codes that are not 0 of an object's part, and of each class that is found every object static and its
 -- loader. The law `places-most` says that they bound `copiedPlaces`.
 abbrev pub codesIn : List ℕ → List ℕ → List ℕ → List ℕ → List ℕ → List ℕ → List ℕ → ℕ → ℕ
-codesIn kinds classes lengths slotStart slotEnd codes starts o = total (codeAt codes (starts ! o)) (partAt kinds classes lengths slotStart slotEnd o)
+codesIn kinds classes lengths slotStart slotEnd codes starts o = total (oneCode codes (starts ! o)) (partAt kinds classes lengths slotStart slotEnd o)
 
 unfoldable pub mostPlaces : List ℕ → List ℕ → List ℕ → List ℕ → List ℕ → List ℕ → List ℕ → List ℕ → List ℕ → List ℕ → List ℕ → List ℕ
     → List ℕ → List ℕ → List ℕ → ℕ
@@ -79,8 +79,8 @@ mostPlaces ids kinds classes lengths classIds loaders dumped slotStart slotEnd s
     + total (classPlaces true ids classIds loaders dumped staticStart staticEnd types values) (length classIds)
 
 -- the range of each class stands in a column of n
-abbrev pub Ranges : List ℕ → List ℕ → ℕ → Type 0
-Ranges starts ends n = (c : ℕ) → c < length starts → (starts ! c ≤ ends ! c) × (ends ! c ≤ n)
+abbrev pub RangesIn : List ℕ → List ℕ → ℕ → Type 0
+RangesIn starts ends n = (c : ℕ) → c < length starts → (starts ! c ≤ ends ! c) × (ends ! c ≤ n)
 
 -- What counting asks of the columns, all of which an input has that passed the tests before: of the classes,
 pub record ClassTables (ids classIds loaders dumped staticStart staticEnd types values : List ℕ) : Type 0 where
@@ -90,7 +90,7 @@ pub record ClassTables (ids classIds loaders dumped staticStart staticEnd types 
   pub starts-long : length staticStart ≡ length classIds
   pub ends-long : length staticEnd ≡ length classIds
   pub values-long : length values ≡ length types
-  pub ranges : Ranges staticStart staticEnd (length types)
+  pub ranges : RangesIn staticStart staticEnd (length types)
   pub few : length classIds ≤ 67108864
 
 -- of the objects on the raw route,
@@ -101,18 +101,18 @@ pub record PartTables (kinds classes lengths slotStart slotEnd : List ℕ) : Typ
   pub few : length kinds ≤ 67108864
 
 -- of one object on the copied route, and of all.
-pub record Stands (classKinds slotStart slotEnd weak codes : List ℕ) (kind class len start : ℕ) : Type 0 where
+pub record PartStands (classKinds slotStart slotEnd weak codes : List ℕ) (kind class len start : ℕ) : Type 0 where
   pub kinds-long : length classKinds ≡ length slotStart
   pub ends-long : length slotEnd ≡ length slotStart
-  pub ranges : Ranges slotStart slotEnd (length weak)
+  pub ranges : RangesIn slotStart slotEnd (length weak)
   pub class-in : kind ≡ 0 → class < length slotStart
-  pub span : kind < 2 → start + partOf kind class len slotStart slotEnd ≤ length codes
+  pub span : kind < 2 → start + partLength kind class len slotStart slotEnd ≤ length codes
 
 pub record CodeTables (kinds classes lengths classKinds slotStart slotEnd weak codes starts : List ℕ) : Type 0 where
   pub classes-long : length classes ≡ length kinds
   pub lengths-long : length lengths ≡ length kinds
   pub starts-long : length starts ≡ length kinds
-  pub stands : (o : ℕ) → o < length kinds → Stands classKinds slotStart slotEnd weak codes (kinds ! o) (classes ! o) (lengths ! o) (starts ! o)
+  pub stands : (o : ℕ) → o < length kinds → PartStands classKinds slotStart slotEnd weak codes (kinds ! o) (classes ! o) (lengths ! o) (starts ! o)
   pub few : length kinds ≤ 67108864
 
 -- Of the parts alone: each stands within n codes.

@@ -6,7 +6,7 @@ ghost use lib.Dec.{eqb};
 ghost use lib.ListN.{length};
 ghost use Rattle.columns.specs.Lists.{one, total};
 ghost use Rattle.columns.specs.Loans.{entry};
-ghost use Rattle.check_places.specs.Placing.{slotHeld, slotAt, codeAt, objectPlaces, heldAt, Stands, CodeTables};
+ghost use Rattle.check_places.specs.Placing.{slotHeld, oneSlot, oneCode, objectPlaces, heldAt, PartStands, CodeTables};
 use rules::ReferencePolicy;
 
 // 1 for a code that is not 0, and for one of a slot that is kept: calls in the place of branches, so that the walks have one way on.
@@ -42,7 +42,7 @@ fn count_slots(
 ) -> u64
     requires { ⌜ start + n ≤ length (now codes) ⌝ }
     requires { ⌜ first + n ≤ length (now «slot_weak») ⌝ }
-    ensures { λ r. ⌜ r ≡ total (slotAt (entry codes) (entry «slot_weak») kept start first) n ⌝ }
+    ensures { λ r. ⌜ r ≡ total (oneSlot (entry codes) (entry «slot_weak») kept start first) n ⌝ }
     ensures { λ r. ⌜ r ≤ n ⌝ }
 {
     let mut sum: u64 = 0;
@@ -57,7 +57,7 @@ fn count_slots(
 // The elements of an array, whose codes begin at `start`.
 fn count_codes(codes: &[u32], start: usize, n: usize) -> u64
     requires { ⌜ start + n ≤ length (now codes) ⌝ }
-    ensures { λ r. ⌜ r ≡ total (codeAt (entry codes) start) n ⌝ }
+    ensures { λ r. ⌜ r ≡ total (oneCode (entry codes) start) n ⌝ }
     ensures { λ r. ⌜ r ≤ n ⌝ }
 {
     let mut sum: u64 = 0;
@@ -82,7 +82,7 @@ fn object_places(
     len: u32,
     start: u32,
 ) -> u64
-    requires { ⌜ Stands (now «class_kinds») (now «slot_starts») (now «slot_ends») (now «slot_weak») (now codes) kind class len start ⌝ }
+    requires { ⌜ PartStands (now «class_kinds») (now «slot_starts») (now «slot_ends») (now «slot_weak») (now codes) kind class len start ⌝ }
     ensures { λ r. ⌜ r ≡ objectPlaces (entry «class_kinds») (entry «slot_starts») (entry «slot_ends») (entry «slot_weak») (entry codes) policy kind class len start ⌝ }
     ensures { λ r. ⌜ r ≤ 4294967295 ⌝ }
 {

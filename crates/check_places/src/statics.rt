@@ -5,7 +5,7 @@ ghost use lib.ListN.{length};
 ghost use Rattle.columns.specs.Lists.{one, total};
 ghost use Rattle.columns.specs.Ranks.{Rises};
 ghost use Rattle.columns.specs.Loans.{entry};
-ghost use Rattle.check_places.specs.Placing.{isHeld, staticHeld, staticAt, classPlaces, ClassTables};
+ghost use Rattle.check_places.specs.Placing.{isHeld, staticHeld, oneStatic, classPlaces, ClassTables};
 use check_tables::found;
 use lookup::Found;
 
@@ -49,7 +49,7 @@ fn count_statics(
     requires { ⌜ length (now «static_values») ≡ length (now «static_types») ⌝ }
     requires { ⌜ from ≤ to ⌝ }
     requires { ⌜ to ≤ length (now «static_types») ⌝ }
-    ensures { λ r. ⌜ r ≡ total (staticAt every (entry ids) (entry «static_types») (entry «static_values») from) (to - from) ⌝ }
+    ensures { λ r. ⌜ r ≡ total (oneStatic every (entry ids) (entry «static_types») (entry «static_values») from) (to - from) ⌝ }
 {
     let mut sum: u64 = 0;
     let mut i = from;

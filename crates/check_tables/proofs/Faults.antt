@@ -14,7 +14,7 @@ use Rattle.columns.proofs.Lists.{lt-or-ge}
 use Rattle.columns.proofs.Tests.{none-of, and-true}
 use Rattle.rules.specs.Input.{Schema, slotTotal, slotPlace, staticTotal}
 use Rattle.rules.specs.Verdict.{badObject, falls, badSlot, badStatic, badClass}
-use Rattle.check_tables.specs.Reads.{objectColumns, objectFault, rowFault, slotFault, staticFault, staticAt}
+use Rattle.check_tables.specs.Reads.{objectColumns, objectFault, rowFault, slotFault, staticFault, staticFaultAt}
 
 -- the id before place o, 0 before the first
 abbrev pub prior : List ℕ → ℕ → ℕ
@@ -117,6 +117,6 @@ module _ (s : Schema) (c : ℕ) where
   row-ranges h = (ltb-false _ _ (none-of _ h 2), ltb-false _ _ (none-of _ h 3), ltb-false _ _ (none-of _ h 4), ltb-false _ _ (none-of _ h 5))
 
   pub static-faults : (from to : ℕ) → from ≡ s .classes .staticStart ! c → to ≡ s .classes .staticEnd ! c
-      → any (staticAt (s .statics .names) (s .statics .types) (s .names) from) (to - from) ≡ any (badStatic s c) (staticTotal s c)
+      → any (staticFaultAt (s .statics .names) (s .statics .types) (s .names) from) (to - from) ≡ any (badStatic s c) (staticTotal s c)
   unfolding badStatic staticFault
   static-faults from to f t = rw (f, t)

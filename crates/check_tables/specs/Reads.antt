@@ -71,8 +71,8 @@ slotFault names label weak offset low = anyOf (leb names label ∷ ltb 1 weak �
 unfoldable pub staticFault : ℕ → ℕ → ℕ → Bool
 staticFault names name type = anyOf (leb names name ∷ not (anyOf (eqb type 2 ∷ allOf (leb 4 type ∷ leb type 11 ∷ []) ∷ [])) ∷ [])
 
-abbrev pub staticAt : List ℕ → List ℕ → ℕ → ℕ → ℕ → Bool
-staticAt staticNames types names from k = staticFault names (staticNames ! (from + k)) (types ! (from + k))
+abbrev pub staticFaultAt : List ℕ → List ℕ → ℕ → ℕ → ℕ → Bool
+staticFaultAt staticNames types names from k = staticFault names (staticNames ! (from + k)) (types ! (from + k))
 
 -- The columns of each table are of one length: the rule `schemaLengths` does not hold of them.
 pub record Tables (dumped kinds slotStart slotEnd staticStart staticEnd offsets labels weak staticNames types : List ℕ) : Type 0 where

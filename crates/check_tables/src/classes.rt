@@ -5,7 +5,7 @@ ghost use lib.ListN.{length};
 ghost use Rattle.columns.specs.Lists.{any, firstPlace};
 ghost use Rattle.columns.specs.Loans.{entry};
 ghost use Rattle.rules.specs.Verdict.{badClass};
-ghost use Rattle.check_tables.specs.Reads.{rowFault, slotFault, staticFault, staticAt, schemaColumns, Tables};
+ghost use Rattle.check_tables.specs.Reads.{rowFault, slotFault, staticFault, staticFaultAt, schemaColumns, Tables};
 
 // A class's flag, its reference kind and its two ranges.
 fn row_fault(
@@ -83,7 +83,7 @@ fn statics_fault(
     to: usize,
 ) -> bool
     requires { ⌜ (from ≤ to) × (to ≤ length (now «static_names»)) × (length (now «static_types») ≡ length (now «static_names»)) ⌝ }
-    ensures { λ r. ⌜ r ≡ any (staticAt (entry «static_names») (entry «static_types») names from) (to - from) ⌝ }
+    ensures { λ r. ⌜ r ≡ any (staticFaultAt (entry «static_names») (entry «static_types») names from) (to - from) ⌝ }
 {
     let mut i = from;
     while i < to {

@@ -25,15 +25,15 @@ use Rattle.rules.specs.Needs.{Lent, fieldsFor, labelColumns, needLong, needFiel
 use Rattle.rules.specs.Verdict.{firstOf, at, counts, plainCounts}
 use Rattle.rules.specs.Built.{CodedLeft, codedLeft}
 use Rattle.rules.proofs.Acceptance.{refuse-at}
-use Rattle.labels.specs.Coding.{LaidOut, TableOf, Laid, escapesIn}
+use Rattle.labels.specs.Coding.{LaidOut, TableOf, LabelsLaid, escapesIn}
 use Rattle.labels.specs.Fields.{Naming, namedBy}
 use Rattle.labels.proofs.Table.{table-length}
 use Rattle.labels.proofs.Codes.{all-length, all-coded, escapes-coded}
 use Rattle.labels.proofs.Listed.{named-by, fields-named}
 use Rattle.code_stages.specs.Stages.{handOn, labelRoom, spaceShort, Where, Ready, OffsetsReady, NamesReady, fieldsBy, escapesOf}
 use Rattle.code_stages.specs.Stages.{offsetsSays, OffsetsCoded, fieldsSays, spaceSays, FieldsWritten, codesSays, codesAll, CodesCoded}
-use Rattle.code_stages.specs.Settling.{usedTo, Settled}
-use Rattle.code_columns.specs.Finished.{Coding, Hands, Finished}
+use Rattle.code_stages.specs.Settling.{usedTo, CodingSettled}
+use Rattle.code_columns.specs.Finished.{PartsCoding, Hands, Finished}
 use Rattle.code_stages.proofs.Laws.{short-none, on-true, on-false, on-accepts, refused-never, label-refuses}
 
 -- the columns as they are left, in the order of the arguments
@@ -246,7 +246,7 @@ module _ (s : Schema) (p : Parts) (l : Lent) (before : List ℕ) (told : Where b
   at1 : accepts s3 ≡ true → accepts s1 ≡ true
   at1 y = fields-before s1 _ _ _ _ f (space-before s2 _ _ _ _ _ _ _ _ q y .0) .0
 
-  written : accepts says ≡ true → Laid (coded fields (p .offsets) (p .labels) (length (p .offsets) - 1)) c₀ i₀ j₀ (escapesIn (codesAll (s .names) t1 (p .offsets) (p .labels))) c1 i1 j1
+  written : accepts says ≡ true → LabelsLaid (coded fields (p .offsets) (p .labels) (length (p .offsets) - 1)) c₀ i₀ j₀ (escapesIn (codesAll (s .names) t1 (p .offsets) (p .labels))) c1 i1 j1
   written y = d .laid y fields (of (codes-before d y))
 
   filled : accepts says ≡ true → Filled (p .offsets) (l .bases) (l .short) (l .longAt) (l .longValue) b1 h1 a1 v1
@@ -261,7 +261,7 @@ module _ (s : Schema) (p : Parts) (l : Lent) (before : List ℕ) (told : Where b
       ∙ all-length (s .names) t1 (p .offsets) (p .labels) law m (omega (arith, law .some)) ∙ law .ends
 
   module _ {u1 k1 b h a v g t i j c u k : List ℕ}
-      (z : Settled says (s .names) (length (p .labels)) (codedOf b1 h1 a1 v1 f1 t1 i1 j1 c1 u1 k1) (codedOf b h a v g t i j c u k))
+      (z : CodingSettled says (s .names) (length (p .labels)) (codedOf b1 h1 a1 v1 f1 t1 i1 j1 c1 u1 k1) (codedOf b h a v g t i j c u k))
       (nb : length b1 ≡ l .bases) (nh : length h1 ≡ l .short) (na : length a1 ≡ l .longAt) (nv : length v1 ≡ l .longValue) (nf : length f1 ≡ l .fields)
       (nt : length t1 ≡ l .table) (mi : length i1 ≡ l .escapeAt) (mj : length j1 ≡ l .escapeLabel) (mc : length c1 ≡ l .codes) (nu : length u1 ≡ l .counting)
       (nk : length k1 ≡ l .ranking) where
@@ -307,10 +307,10 @@ pub coded-whole : {g : Naming} {classes names : ℕ} {offsets labels before : Li
     → {c₀ i₀ j₀ says c1 i1 j1 : List ℕ} → CodesCoded s3 names t1 offsets labels c₀ i₀ j₀ says c1 i1 j1
     → length c₀ ≡ l .codes → length i₀ ≡ l .escapeAt → length j₀ ≡ l .escapeLabel
     → {u1 k1 b h a v m t i j c u k : List ℕ}
-    → Settled says names (length labels) (codedOf b1 h1 a1 v1 f1 t1 i1 j1 c1 u1 k1) (codedOf b h a v m t i j c u k)
+    → CodingSettled says names (length labels) (codedOf b1 h1 a1 v1 f1 t1 i1 j1 c1 u1 k1) (codedOf b h a v m t i j c u k)
     → length b1 ≡ l .bases → length h1 ≡ l .short → length a1 ≡ l .longAt → length v1 ≡ l .longValue → length f1 ≡ l .fields → length t1 ≡ l .table
     → length i1 ≡ l .escapeAt → length j1 ≡ l .escapeLabel → length c1 ≡ l .codes → length u1 ≡ l .counting → length k1 ≡ l .ranking
-    → Coding g classes names offsets labels before l says (codedOf b h a v m t i j c u k)
+    → PartsCoding g classes names offsets labels before l says (codedOf b h a v m t i j c u k)
 coded-whole l ready o f q w d nc ni nj z nb nh na nv nf nt mi mj mc nu nk s p hands =
     let e = sym (hands-fields hands) in
     let x = sym (hands .laid-out) in

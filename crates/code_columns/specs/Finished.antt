@@ -31,6 +31,6 @@ pub record Finished (s : Schema) (p : Parts) (before : List ℕ) (l : Lent) (say
   pub columns : left ≡ codedLeft says s p l
 
 -- What `code_parts` promises, whatever schema and plain columns it is handed the columns of.
-abbrev pub Coding : Naming → ℕ → ℕ → List ℕ → List ℕ → List ℕ → Lent → List ℕ → CodedLeft → Type 0
-Coding g classes names offsets labels before l says left =
+abbrev pub PartsCoding : Naming → ℕ → ℕ → List ℕ → List ℕ → List ℕ → Lent → List ℕ → CodedLeft → Type 0
+PartsCoding g classes names offsets labels before l says left =
     (s : Schema) (p : Parts) → Hands s p before g classes names offsets labels → Finished s p before l says left

@@ -5,7 +5,7 @@ ghost use Rattle.rules.specs.Types.{builtSays};
 ghost use Rattle.rules.specs.Tables.{codingRoom, codingLeft};
 ghost use Rattle.labels.specs.Fields.{nameColumns};
 ghost use Rattle.code_columns.specs.Stages.{Where, Ready};
-ghost use Rattle.code_columns.specs.Finished.{Coding};
+ghost use Rattle.code_columns.specs.Finished.{PartsCoding};
 
 // The coded columns of the plain graph whose offsets and labels these are. A refusal is handed on; an acceptance, with nothing coded yet, takes the
 // numbers of long offsets, fields and escapes, or turns into ROOM. After a refusal all eleven columns are zero.
@@ -41,7 +41,7 @@ pub fn code_parts(
         let named = nameColumns entry «slot_starts» «slot_ends» «static_starts» «static_ends» «slot_labels» «static_names» «static_types» in
         let room = codingRoom entry bases short «long_at» «long_value» fields table «escape_at» «escape_label» «edge_codes» counting ranking in
         let left = codingLeft exit bases short «long_at» «long_value» fields table «escape_at» «escape_label» «edge_codes» counting ranking in
-        Coding named classes names (entry offsets) (entry labels) (builtSays v) room (builtSays r) left) ⌝ }
+        PartsCoding named classes names (entry offsets) (entry labels) (builtSays v) room (builtSays r) left) ⌝ }
 {
     let v1 = code_stages::offsets::offsets_stage(v, offsets, bases, short, long_at, long_value);
     let v2 = code_stages::fields::fields_room(

@@ -13,7 +13,7 @@ abbrev pub usedTo : List ℕ → ℕ → ℕ
 usedTo says n = cond (accepts says) n 0
 
 -- The columns set right: each is cleared behind its used part, or whole. The blocks have zeros behind them already.
-pub record Settled (says : List ℕ) (names edges : ℕ) (l₀ : CodedLeft) (l : CodedLeft) : Type 0 where
+pub record CodingSettled (says : List ℕ) (names edges : ℕ) (l₀ : CodedLeft) (l : CodedLeft) : Type 0 where
   pub bases : l .bases ≡ cleared (usedTo says (length (l₀ .bases))) (l₀ .bases)
   pub short : l .short ≡ cleared (usedTo says (length (l₀ .short))) (l₀ .short)
   pub long-at : l .longAt ≡ cleared (usedTo says (length (l₀ .longAt))) (l₀ .longAt)

@@ -6,7 +6,7 @@ ghost use Rattle.rules.specs.Types.{builtSays};
 ghost use Rattle.rules.specs.Tables.{codingLeft};
 ghost use Prim.Native.Nat.{_≤_};
 ghost use Rattle.code_stages.specs.Stages.{Where};
-ghost use Rattle.code_stages.specs.Settling.{Settled};
+ghost use Rattle.code_stages.specs.Settling.{CodingSettled};
 
 pub fn settle(
     b: Built,
@@ -28,7 +28,7 @@ pub fn settle(
     ensures { λ _. ⌜ (
         let before = codingLeft entry bases short «long_at» «long_value» fields table «escape_at» «escape_label» «edge_codes» counting ranking in
         let left = codingLeft exit bases short «long_at» «long_value» fields table «escape_at» «escape_label» «edge_codes» counting ranking in
-        Settled (builtSays b) names edges before left) ⌝ }
+        CodingSettled (builtSays b) names edges before left) ⌝ }
 {
     columns::zero_u64(bases, answers::used_to(b, bases.len()));
     columns::zero_u16(short, answers::used_to(b, short.len()));

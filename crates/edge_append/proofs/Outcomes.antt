@@ -15,7 +15,7 @@ use Rattle.lookup.specs.Lookup.{Sought, Stands, lookupOf, placed}
 use Rattle.lookup.specs.declared.Found.{Found}
 use Rattle.lookup.specs.declared.Found.the-variants.{At, Missing}
 use Rattle.rules.specs.Edges.{Ref, Outcome, edge, weak, missing, nothing, absent, outcome, edgeOf, weakOf, missingOf}
-use Rattle.edge_append.specs.Append.{kindOf, refOf, edgesIn, weakIn, missingIn, targetOf, labelOf, withEdge, withWeak, withMissing, Room, Appended}
+use Rattle.edge_append.specs.Append.{kindOf, refOf, edgesAmong, weakAmong, missingAmong, edgeTarget, edgeLabel, withEdge, withWeak, withMissing, EdgeRoom, Appended}
 use Rattle.edge_append.specs.declared.Pass.{Pass}
 
 pub record Becomes (ids : List ℕ) (r : Ref) (u : Outcome) : Type 0 where
@@ -76,24 +76,24 @@ module _ (ids : List ℕ) (kind label : ℕ) (kept : Bool) (id : ℕ) where
 
 -- What the reference of an outcome appends.
 module _ {ids : List ℕ} {r : Ref} {u : Outcome} (e : Becomes ids r u) where
-  one-edges : edgesIn ids (r ∷ []) ≡ edgeOf (r .label) u
-  unfolding edgesIn
+  one-edges : edgesAmong ids (r ∷ []) ≡ edgeOf (r .label) u
+  unfolding edgesAmong
   one-edges = append-nil (edgeOf (r .label) (outcome ids r)) ∙ ap (edgeOf (r .label)) (e .told)
 
-  one-weak : weakIn ids (r ∷ []) ≡ weakOf u
-  unfolding weakIn
+  one-weak : weakAmong ids (r ∷ []) ≡ weakOf u
+  unfolding weakAmong
   one-weak = append-nil (weakOf (outcome ids r)) ∙ ap weakOf (e .told)
 
-  one-missing : missingIn ids (r ∷ []) ≡ missingOf u
-  unfolding missingIn
+  one-missing : missingAmong ids (r ∷ []) ≡ missingOf u
+  unfolding missingAmong
   one-missing = add-zero _ ∙ ap missingOf (e .told)
 
-  pub one-room : {s : Pass} {nt nl nw : ℕ} → Room ids (r ∷ []) s nt nl nw
+  pub one-room : {s : Pass} {nt nl nw : ℕ} → EdgeRoom ids (r ∷ []) s nt nl nw
       → (s .edges + length (edgeOf (r .label) u) ≤ nt) × (s .edges + length (edgeOf (r .label) u) ≤ nl) × (s .weak + length (weakOf u) ≤ nw) × (s .missing + missingOf u < 2 ^ 64)
   one-room m = (rw (← one-edges) (m .targets), rw (← one-edges) (m .labels), rw (← one-weak) (m .weaks), rw (← one-missing) (m .missing))
 
   one-appended : (s q : Pass) (ts ls ws ts′ ls′ ws′ : List ℕ)
-      → ts′ ≡ sets ts (s .edges) (map targetOf (edgeOf (r .label) u)) → ls′ ≡ sets ls (s .edges) (map labelOf (edgeOf (r .label) u)) → ws′ ≡ sets ws (s .weak) (weakOf u)
+      → ts′ ≡ sets ts (s .edges) (map edgeTarget (edgeOf (r .label) u)) → ls′ ≡ sets ls (s .edges) (map edgeLabel (edgeOf (r .label) u)) → ws′ ≡ sets ws (s .weak) (weakOf u)
       → q .edges ≡ s .edges + length (edgeOf (r .label) u) → q .weak ≡ s .weak + length (weakOf u) → q .missing ≡ s .missing + missingOf u
       → Appended ids (r ∷ []) s q ts ls ws ts′ ls′ ws′
   one-appended s q ts ls ws ts′ ls′ ws′ a b d f g h =

@@ -10,8 +10,8 @@ use Rattle.columns.specs.Lists.{sort}
 use Rattle.sort.specs.Order.{sortRun}
 use Rattle.sort.proofs.Sorted.{sort-length}
 use Rattle.rules.specs.Edges.{Ref}
-use Rattle.edge_append.specs.Append.{weakIn, Appended}
-use Rattle.edge_append.specs.Object.{Settled, Object}
+use Rattle.edge_append.specs.Append.{weakAmong, Appended}
+use Rattle.edge_append.specs.Object.{PairsSettled, Object}
 use Rattle.edge_append.specs.declared.Pass.{Pass}
 use Rattle.edge_append.proofs.Appending.{sets-append}
 
@@ -48,14 +48,14 @@ run-sorted vs ws s h =
 
 -- References appended and their weak targets settled are the object's.
 pub object-done : {ids : List ℕ} {rs : List Ref} {o : ℕ} {s q : Pass} {ts ls fs ws ts′ ls′ fs′ ws′ ws″ : List ℕ} → Appended ids rs s q ts ls ws ts′ ls′ ws′
-    → Settled o (s .weak) (q .weak) fs ws′ fs′ ws″ → s .weak + length (weakIn ids rs) ≤ length ws → Object ids rs o s q ts ls fs ws ts′ ls′ fs′ ws″
+    → PairsSettled o (s .weak) (q .weak) fs ws′ fs′ ws″ → s .weak + length (weakAmong ids rs) ≤ length ws → Object ids rs o s q ts ls fs ws ts′ ls′ fs′ ws″
 object-done {ids} {rs} {o} {s} {q} {fs = fs} {ws = ws} a b h =
-    let count : q .weak - s .weak ≡ length (weakIn ids rs) = omega (arith, a .next-weak) in
+    let count : q .weak - s .weak ≡ length (weakAmong ids rs) = omega (arith, a .next-weak) in
     record {
       targets = a .targets;
       labels = a .labels;
       objects = b .objects ∙ ap (λ (n : ℕ). sets fs (s .weak) (replicate n o)) count;
-      weaks = b .sorted ∙ rw (a .weaks, a .next-weak) (run-sorted (weakIn ids rs) ws (s .weak) h);
+      weaks = b .sorted ∙ rw (a .weaks, a .next-weak) (run-sorted (weakAmong ids rs) ws (s .weak) h);
       next = a .next;
       next-weak = a .next-weak;
       lost = a .lost;

@@ -11,7 +11,7 @@ use Rattle.rules.specs.Types.{LOADER, ARRAY-ELEMENT, keeps}
 use Rattle.rules.specs.declared.ReferencePolicy.{ReferencePolicy}
 use Rattle.rules.specs.Input.{copiedId}
 use Rattle.edge_append.specs.Append.{refOf}
-use Rattle.edge_append.specs.Held.{keptOf, slotWith, elementWith, copiedSlot, copiedElement, copiedSlots, copiedElements, staticAt, staticFrom, staticsAt, loaderAt}
+use Rattle.edge_append.specs.Held.{keptOf, slotWith, elementWith, copiedSlot, copiedElement, copiedSlots, copiedElements, staticRefAt, staticFrom, staticsAt, loaderAt}
 
 pub slot-read : (labels weak : List ℕ) (keeps : Bool) (place id : ℕ) {kept : Bool} → kept ≡ keptOf (weak ! place) keeps → refOf 0 (labels ! place) kept id ≡ slotWith labels weak keeps place id
 unfolding slotWith
@@ -31,12 +31,12 @@ module _ (c : Ids) (start k : ℕ) {id : ℕ} (e : id ≡ copiedId c (start + k)
   copied-element = ap (elementWith k) e
 
 module _ (names types values : List ℕ) (place : ℕ) where
-  pub static-object : types ! place ≡ 2 → refOf 2 (names ! place) true (values ! place) ∷ [] ≡ staticAt names types values place
-  unfolding staticAt
+  pub static-object : types ! place ≡ 2 → refOf 2 (names ! place) true (values ! place) ∷ [] ≡ staticRefAt names types values place
+  unfolding staticRefAt
   static-object e = rw (eq-eqb _ _ e)
 
-  pub static-skipped : (types ! place ≡ 2 → ⊥) → [] ≡ staticAt names types values place
-  unfolding staticAt
+  pub static-skipped : (types ! place ≡ 2 → ⊥) → [] ≡ staticRefAt names types values place
+  unfolding staticRefAt
   static-skipped h = rw (ne-eqb _ _ h)
 
 -- An object of another kind has no slots, no elements.

@@ -5,7 +5,7 @@ use mathlib.Core.Path.{_≡_}
 use mathlib.Core.List.{List, [], _∷_}
 use lib.ListN.{length}
 use Rattle.rules.specs.Edges.{Ref}
-use Rattle.edge_append.specs.Append.{edgesIn, weakIn, missingIn, Appended}
+use Rattle.edge_append.specs.Append.{edgesAmong, weakAmong, missingAmong, Appended}
 use Rattle.edge_append.specs.Account.{rowAfter, rowWith, RowIn, Grows}
 use Rattle.edge_append.specs.declared.Pass.{Pass}
 
@@ -22,9 +22,9 @@ module _ {ids : List ℕ} {rs : List Ref} {s q : Pass} {ts ls ws ts′ ls′ ws�
   pub row-as : (r : List ℕ) → rowAfter r s q ≡ rowWith ids r rs
   unfolding rowAfter rowWith
   row-as r =
-      let e : q .edges - s .edges ≡ length (edgesIn ids rs) = omega (arith, a .next) in
-      let w : q .weak - s .weak ≡ length (weakIn ids rs) = omega (arith, a .next-weak) in
-      let m : q .missing - s .missing ≡ missingIn ids rs = omega (arith, a .lost) in
+      let e : q .edges - s .edges ≡ length (edgesAmong ids rs) = omega (arith, a .next) in
+      let w : q .weak - s .weak ≡ length (weakAmong ids rs) = omega (arith, a .next-weak) in
+      let m : q .missing - s .missing ≡ missingAmong ids rs = omega (arith, a .lost) in
       rw (e, w, m)
 
   pub row-with-in : {r : List ℕ} → RowIn r s → RowIn (rowWith ids r rs) q

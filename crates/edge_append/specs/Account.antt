@@ -4,7 +4,7 @@ use mathlib.Core.List.{List, [], _∷_}
 use lib.ListN.{length, getD}
 use Rattle.columns.specs.Lists.{_!_}
 use Rattle.rules.specs.Edges.{Ref}
-use Rattle.edge_append.specs.Append.{edgesIn, weakIn, missingIn}
+use Rattle.edge_append.specs.Append.{edgesAmong, weakAmong, missingAmong}
 use Rattle.edge_append.specs.declared.Pass.{Pass}
 
 abbrev pub row : List (List ℕ) → ℕ → List ℕ
@@ -16,7 +16,7 @@ rowAfter r s q = (r ! 0 + (q .edges - s .edges)) ∷ (r ! 1 + (q .weak - s .weak
 
 -- The same, and what references of its kind came to.
 unfoldable pub rowWith : List ℕ → List ℕ → List Ref → List ℕ
-rowWith ids r rs = (r ! 0 + length (edgesIn ids rs)) ∷ (r ! 1 + length (weakIn ids rs)) ∷ (r ! 2 + missingIn ids rs) ∷ []
+rowWith ids r rs = (r ! 0 + length (edgesAmong ids rs)) ∷ (r ! 1 + length (weakAmong ids rs)) ∷ (r ! 2 + missingAmong ids rs) ∷ []
 
 -- A row counts no more than the state, and a state no more than a later one: so that no cell wraps.
 pub record RowIn (r : List ℕ) (s : Pass) : Type 0 where

@@ -31,35 +31,35 @@ abbrev pub refOf : ℕ → ℕ → Bool → ℕ → Ref
 refOf kind label kept id = record { kind = kindOf kind; label = label; kept = kept; id = id }
 
 -- What a list of references comes to, in order: `edgesOf`, `weakTargets` and `missingAt` are these of an object's references.
-unfoldable pub edgesIn : List ℕ → List Ref → List Edge
-edgesIn ids rs = flat (refEdge ids) rs
+unfoldable pub edgesAmong : List ℕ → List Ref → List Edge
+edgesAmong ids rs = flat (refEdge ids) rs
 
-unfoldable pub weakIn : List ℕ → List Ref → List ℕ
-weakIn ids rs = flat (refWeak ids) rs
+unfoldable pub weakAmong : List ℕ → List Ref → List ℕ
+weakAmong ids rs = flat (refWeak ids) rs
 
-unfoldable pub missingIn : List ℕ → List Ref → ℕ
-missingIn ids rs = sum (refMissing ids) rs
+unfoldable pub missingAmong : List ℕ → List Ref → ℕ
+missingAmong ids rs = sum (refMissing ids) rs
 
-abbrev pub targetOf : Edge → ℕ
-targetOf e = e .target
+abbrev pub edgeTarget : Edge → ℕ
+edgeTarget e = e .target
 
-abbrev pub labelOf : Edge → ℕ
-labelOf e = e .label
+abbrev pub edgeLabel : Edge → ℕ
+edgeLabel e = e .label
 
 -- The ids can be searched and numbered in 32 bits, and columns of nt targets, nl labels and nw weak targets have room for what the references append.
-pub record Room (ids : List ℕ) (rs : List Ref) (s : Pass) (nt nl nw : ℕ) : Type 0 where
+pub record EdgeRoom (ids : List ℕ) (rs : List Ref) (s : Pass) (nt nl nw : ℕ) : Type 0 where
   pub rising : Rises ids
   pub few : length ids ≤ 2 ^ 32
-  pub targets : s .edges + length (edgesIn ids rs) ≤ nt
-  pub labels : s .edges + length (edgesIn ids rs) ≤ nl
-  pub weaks : s .weak + length (weakIn ids rs) ≤ nw
-  pub missing : s .missing + missingIn ids rs < 2 ^ 64
+  pub targets : s .edges + length (edgesAmong ids rs) ≤ nt
+  pub labels : s .edges + length (edgesAmong ids rs) ≤ nl
+  pub weaks : s .weak + length (weakAmong ids rs) ≤ nw
+  pub missing : s .missing + missingAmong ids rs < 2 ^ 64
 
 -- The references appended: each column written from where the state stood, and the state behind them. Nothing else is touched.
 pub record Appended (ids : List ℕ) (rs : List Ref) (s q : Pass) (ts ls ws ts′ ls′ ws′ : List ℕ) : Type 0 where
-  pub targets : ts′ ≡ sets ts (s .edges) (map targetOf (edgesIn ids rs))
-  pub labels : ls′ ≡ sets ls (s .edges) (map labelOf (edgesIn ids rs))
-  pub weaks : ws′ ≡ sets ws (s .weak) (weakIn ids rs)
-  pub next : q .edges ≡ s .edges + length (edgesIn ids rs)
-  pub next-weak : q .weak ≡ s .weak + length (weakIn ids rs)
-  pub lost : q .missing ≡ s .missing + missingIn ids rs
+  pub targets : ts′ ≡ sets ts (s .edges) (map edgeTarget (edgesAmong ids rs))
+  pub labels : ls′ ≡ sets ls (s .edges) (map edgeLabel (edgesAmong ids rs))
+  pub weaks : ws′ ≡ sets ws (s .weak) (weakAmong ids rs)
+  pub next : q .edges ≡ s .edges + length (edgesAmong ids rs)
+  pub next-weak : q .weak ≡ s .weak + length (weakAmong ids rs)
+  pub lost : q .missing ≡ s .missing + missingAmong ids rs

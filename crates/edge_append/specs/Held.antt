@@ -54,11 +54,11 @@ unfoldable pub copiedElements : Ids → ℕ → ℕ → ℕ → List Ref
 copiedElements c start kind count = tab (copiedElement c start) (cond (eqb kind 1) count 0)
 
 -- "Type 2 is an object; 4 to 11 are skipped": the static at a place of the static columns, the rule `staticRefs`, law `classes-same`.
-unfoldable pub staticAt : List ℕ → List ℕ → List ℕ → ℕ → List Ref
-staticAt names types values place = cond (eqb (types ! place) 2) (refOf 2 (names ! place) true (values ! place) ∷ []) []
+unfoldable pub staticRefAt : List ℕ → List ℕ → List ℕ → ℕ → List Ref
+staticRefAt names types values place = cond (eqb (types ! place) 2) (refOf 2 (names ! place) true (values ! place) ∷ []) []
 
 unfoldable pub staticFrom : List ℕ → List ℕ → List ℕ → ℕ → ℕ → List Ref
-staticFrom names types values first k = staticAt names types values (first + k)
+staticFrom names types values first k = staticRefAt names types values (first + k)
 
 -- The class found at an object, by its mark: the class and one, 0 for none. Its object statics in order, and its loader: the rule `classRefs`, law
 -- `classes-same`.

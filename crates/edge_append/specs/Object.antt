@@ -11,25 +11,25 @@ use Rattle.index.specs.Copied.{Ids}
 use Rattle.rules.specs.declared.ReferencePolicy.{ReferencePolicy}
 use Rattle.rules.specs.Input.{Input, Copied, Raw}
 use Rattle.rules.specs.Edges.{Ref}
-use Rattle.edge_append.specs.Append.{edgesIn, weakIn, missingIn, targetOf, labelOf, Room}
+use Rattle.edge_append.specs.Append.{edgesAmong, weakAmong, missingAmong, edgeTarget, edgeLabel, EdgeRoom}
 use Rattle.edge_append.specs.Held.{copiedSlots, copiedElements, staticsAt, loaderAt}
 use Rattle.edge_append.specs.Raw.{rawSlots, rawElements}
 use Rattle.edge_append.specs.Account.{AccountIn, accountWith}
 use Rattle.edge_append.specs.declared.Pass.{Pass}
 
 -- The references of one object in their four parts, and in order.
-pub record Parts : Type 0 where
+pub record RefParts : Type 0 where
   pub slots : List Ref
   pub elements : List Ref
   pub statics : List Ref
   pub loaders : List Ref
 
-unfoldable pub together : Parts → List Ref
+unfoldable pub together : RefParts → List Ref
 together p = p .slots ++ (p .elements ++ (p .statics ++ p .loaders))
 
 -- By the copied route: ids from `start` on, an object of a kind, a class and a length, and the mark of the class that is found at it.
 unfoldable pub copiedParts : Ids → ℕ → List ℕ → List ℕ → List ℕ → List ℕ → List ℕ → ReferencePolicy → ℕ → ℕ → ℕ → List ℕ → List ℕ → List ℕ
-    → List ℕ → List ℕ → List ℕ → ℕ → Parts
+    → List ℕ → List ℕ → List ℕ → ℕ → RefParts
 copiedParts c start kinds starts ends labels weak policy kind class count loaders firsts lasts names types values mark = record {
   slots = copiedSlots c start kinds starts ends labels weak policy kind class;
   elements = copiedElements c start kind count;
@@ -39,7 +39,7 @@ copiedParts c start kinds starts ends labels weak policy kind class count loader
 
 -- By the raw route: a body of `body` bytes from `start` on.
 unfoldable pub rawParts : List ℕ → ℕ → ℕ → ℕ → List ℕ → List ℕ → List ℕ → List ℕ → List ℕ → List ℕ → ReferencePolicy → ℕ → ℕ → ℕ
-    → List ℕ → List ℕ → List ℕ → List ℕ → List ℕ → List ℕ → ℕ → Parts
+    → List ℕ → List ℕ → List ℕ → List ℕ → List ℕ → List ℕ → ℕ → RefParts
 rawParts bytes size start body kinds starts ends offsets labels weak policy kind class count loaders firsts lasts names types values mark = record {
   slots = rawSlots bytes size start body kinds starts ends offsets labels weak policy kind class;
   elements = rawElements bytes size start kind count;
@@ -48,12 +48,12 @@ rawParts bytes size start body kinds starts ends offsets labels weak policy kind
 }
 
 -- The classes that a mark tells of: the class and one, 0 for none.
-abbrev pub marked : ℕ → List ℕ
-marked zero = []
-marked (suc c) = c ∷ []
+abbrev pub markClasses : ℕ → List ℕ
+markClasses zero = []
+markClasses (suc c) = c ∷ []
 
 -- The parts of object o of an input, by the copied route.
-unfoldable pub copiedPartsOf : Input → Copied → ℕ → ℕ → Parts
+unfoldable pub copiedPartsOf : Input → Copied → ℕ → ℕ → RefParts
 copiedPartsOf x c o mark =
     let k = x .schema .classes in
     let t = x .schema .statics in
@@ -61,7 +61,7 @@ copiedPartsOf x c o mark =
     (x .objects .kinds ! o) (x .objects .classes ! o) (x .objects .lengths ! o) (k .loaders) (k .staticStart) (k .staticEnd) (t .names) (t .types) (t .values) mark
 
 -- by the raw route
-unfoldable pub rawPartsOf : Input → Raw → ℕ → ℕ → Parts
+unfoldable pub rawPartsOf : Input → Raw → ℕ → ℕ → RefParts
 rawPartsOf x r o mark =
     let k = x .schema .classes in
     let t = x .schema .statics in
@@ -70,27 +70,27 @@ rawPartsOf x r o mark =
     (t .names) (t .types) (t .values) mark
 
 -- a run of the weak columns: the object's number at each place, and the targets sorted
-pub record Settled (o from to : ℕ) (fs ws fs′ ws′ : List ℕ) : Type 0 where
+pub record PairsSettled (o from to : ℕ) (fs ws fs′ ws′ : List ℕ) : Type 0 where
   pub objects : fs′ ≡ sets fs from (replicate (to - from) o)
   pub sorted : ws′ ≡ sortRun ws from to
 
 -- The references of object o appended, and its weak pairs in their place: "weak pairs sort by object, then target, repeats kept".
 pub record Object (ids : List ℕ) (rs : List Ref) (o : ℕ) (s q : Pass) (ts ls fs ws ts′ ls′ fs′ ws′ : List ℕ) : Type 0 where
-  pub targets : ts′ ≡ sets ts (s .edges) (map targetOf (edgesIn ids rs))
-  pub labels : ls′ ≡ sets ls (s .edges) (map labelOf (edgesIn ids rs))
-  pub objects : fs′ ≡ sets fs (s .weak) (replicate (length (weakIn ids rs)) o)
-  pub weaks : ws′ ≡ sets ws (s .weak) (sort leb (weakIn ids rs))
-  pub next : q .edges ≡ s .edges + length (edgesIn ids rs)
-  pub next-weak : q .weak ≡ s .weak + length (weakIn ids rs)
-  pub lost : q .missing ≡ s .missing + missingIn ids rs
+  pub targets : ts′ ≡ sets ts (s .edges) (map edgeTarget (edgesAmong ids rs))
+  pub labels : ls′ ≡ sets ls (s .edges) (map edgeLabel (edgesAmong ids rs))
+  pub objects : fs′ ≡ sets fs (s .weak) (replicate (length (weakAmong ids rs)) o)
+  pub weaks : ws′ ≡ sets ws (s .weak) (sort leb (weakAmong ids rs))
+  pub next : q .edges ≡ s .edges + length (edgesAmong ids rs)
+  pub next-weak : q .weak ≡ s .weak + length (weakAmong ids rs)
+  pub lost : q .missing ≡ s .missing + missingAmong ids rs
 
 -- There is room for the parts of one object: in columns of nt targets, nl labels, nf and nw weak pairs.
-pub record Ready (ids : List ℕ) (p : Parts) (s : Pass) (nt nl nf nw : ℕ) (a : List (List ℕ)) : Type 0 where
-  pub room : Room ids (together p) s nt nl nw
-  pub objects : s .weak + length (weakIn ids (together p)) ≤ nf
+pub record ObjectReady (ids : List ℕ) (p : RefParts) (s : Pass) (nt nl nf nw : ℕ) (a : List (List ℕ)) : Type 0 where
+  pub room : EdgeRoom ids (together p) s nt nl nw
+  pub objects : s .weak + length (weakAmong ids (together p)) ≤ nf
   pub account : AccountIn a s
 
 -- What the parts of object o leave in the columns and in the account.
-pub record Done (ids : List ℕ) (p : Parts) (o : ℕ) (s q : Pass) (ts ls fs ws : List ℕ) (a : List (List ℕ)) (ts′ ls′ fs′ ws′ : List ℕ) (a′ : List (List ℕ)) : Type 0 where
+pub record Done (ids : List ℕ) (p : RefParts) (o : ℕ) (s q : Pass) (ts ls fs ws : List ℕ) (a : List (List ℕ)) (ts′ ls′ fs′ ws′ : List ℕ) (a′ : List (List ℕ)) : Type 0 where
   pub object : Object ids (together p) o s q ts ls fs ws ts′ ls′ fs′ ws′
   pub account : a′ ≡ accountWith ids a (p .slots) (p .elements) (p .statics) (p .loaders)

@@ -5,7 +5,7 @@ ghost use mathlib.Core.List.{[], _∷_};
 ghost use Prim.Native.Nat.{_^_, _<_};
 ghost use lib.ListN.{length};
 ghost use Rattle.columns.specs.Loans.{entry, exit};
-ghost use Rattle.edge_append.specs.Append.{refOf, Room, Appended};
+ghost use Rattle.edge_append.specs.Append.{refOf, EdgeRoom, Appended};
 ghost use Rattle.edge_append.specs.Held.{keptOf, slotWith, elementWith};
 
 // The four kinds of references, as the rows of the account.
@@ -39,7 +39,7 @@ pub fn append(
     labels: &mut [u32],
     weak: &mut [u32],
 ) -> Pass
-    requires { ⌜ Room (now ids) (refOf kind label kept id ∷ []) s (length (now targets)) (length (now labels)) (length (now weak)) ⌝ }
+    requires { ⌜ EdgeRoom (now ids) (refOf kind label kept id ∷ []) s (length (now targets)) (length (now labels)) (length (now weak)) ⌝ }
     ensures { λ q. ⌜ Appended (entry ids) (refOf kind label kept id ∷ []) s q (entry targets) (entry labels) (entry weak) (exit targets) (exit labels) (exit weak) ⌝ }
 {
     if id == 0 {
@@ -89,7 +89,7 @@ pub fn append_slot(
     weak: &mut [u32],
 ) -> Pass
     requires { ⌜ (place < length (now «slot_labels»)) × (place < length (now «slot_weak»)) ⌝ }
-    requires { ⌜ Room (now ids) (slotWith (now «slot_labels») (now «slot_weak») keeps place id ∷ []) s (length (now targets)) (length (now labels)) (length (now weak)) ⌝ }
+    requires { ⌜ EdgeRoom (now ids) (slotWith (now «slot_labels») (now «slot_weak») keeps place id ∷ []) s (length (now targets)) (length (now labels)) (length (now weak)) ⌝ }
     ensures { λ q. ⌜ Appended (entry ids) (slotWith (entry «slot_labels») (entry «slot_weak») keeps place id ∷ []) s q (entry targets) (entry labels)
         (entry weak) (exit targets) (exit labels) (exit weak) ⌝ }
 {
@@ -122,7 +122,7 @@ pub fn append_element(
     weak: &mut [u32],
 ) -> Pass
     requires { ⌜ k < 2 ^ 31 ⌝ }
-    requires { ⌜ Room (now ids) (elementWith k id ∷ []) s (length (now targets)) (length (now labels)) (length (now weak)) ⌝ }
+    requires { ⌜ EdgeRoom (now ids) (elementWith k id ∷ []) s (length (now targets)) (length (now labels)) (length (now weak)) ⌝ }
     ensures { λ q. ⌜ Appended (entry ids) (elementWith k id ∷ []) s q (entry targets) (entry labels) (entry weak) (exit targets) (exit labels) (exit weak) ⌝ }
 {
     let label = rules::Label::ARRAY_ELEMENT + narrow(k);

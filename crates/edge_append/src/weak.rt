@@ -3,7 +3,7 @@ ghost use mathlib.Core.Path.{_≡_};
 ghost use Prim.Native.Nat.{_-_, _≤_};
 ghost use lib.ListN.{length, replicate};
 ghost use lib.Seq.{sets};
-ghost use Rattle.edge_append.specs.Object.{Settled};
+ghost use Rattle.edge_append.specs.Object.{PairsSettled};
 
 fn fill(d: &mut [u32], v: u32, from: usize, to: usize)
     requires { ⌜ (from ≤ to) × (to ≤ length (now d)) ⌝ }
@@ -19,7 +19,7 @@ fn fill(d: &mut [u32], v: u32, from: usize, to: usize)
 // The run from one place up to another is the object's.
 pub fn settle(weak_from: &mut [u32], weak_to: &mut [u32], object: u32, from: usize, to: usize)
     requires { ⌜ (from ≤ to) × (to ≤ length (now «weak_from»)) × (to ≤ length (now «weak_to»)) ⌝ }
-    ensures { λ _. ⌜ Settled object from to (now («weak_from» .entry)) (now («weak_to» .entry)) (now («weak_from» .exit)) (now («weak_to» .exit)) ⌝ }
+    ensures { λ _. ⌜ PairsSettled object from to (now («weak_from» .entry)) (now («weak_to» .entry)) (now («weak_from» .exit)) (now («weak_to» .exit)) ⌝ }
 {
     fill(weak_from, object, from, to);
     sort::sort_run(weak_to, from, to);

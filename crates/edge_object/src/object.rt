@@ -14,7 +14,7 @@ ghost use Rattle.columns.specs.Loans.{entry, exit};
 ghost use Rattle.index.specs.Copied.{idsOf};
 ghost use Rattle.edge_append.specs.Held.{SlotsIn, StaticsIn};
 ghost use Rattle.edge_append.specs.Raw.{BodyIn};
-ghost use Rattle.edge_append.specs.Object.{copiedParts, rawParts, Ready, Done};
+ghost use Rattle.edge_append.specs.Object.{copiedParts, rawParts, ObjectReady, Done};
 
 // By the copied route; escapes are sought from row `row` on.
 pub fn object_copied(
@@ -63,7 +63,7 @@ pub fn object_copied(
         (now «class_kinds») (now «slot_starts») (now «slot_ends») (now «slot_labels») (now «slot_weak»)
         policy kind class count (now loaders)
         (now «static_starts») (now «static_ends») (now «static_names») (now «static_types») (now «static_values») mark in
-        Ready (now ids) parts from (length (now targets)) (length (now labels)) (length (now «weak_from»)) (length (now «weak_to»)) (now account)) ⌝ }
+        ObjectReady (now ids) parts from (length (now targets)) (length (now labels)) (length (now «weak_from»)) (length (now «weak_to»)) (now account)) ⌝ }
     ensures { λ q. ⌜ (
         let held = idsOf (entry codes) (entry «escape_places») (entry «escape_ids») base in
         let parts = copiedParts held start
@@ -197,7 +197,7 @@ pub fn object_raw(
         (now «class_kinds») (now «slot_starts») (now «slot_ends») (now «slot_offsets») (now «slot_labels») (now «slot_weak»)
         policy kind class count (now loaders)
         (now «static_starts») (now «static_ends») (now «static_names») (now «static_types») (now «static_values») mark in
-        Ready (now ids) parts from (length (now targets)) (length (now labels)) (length (now «weak_from»)) (length (now «weak_to»)) (now account)) ⌝ }
+        ObjectReady (now ids) parts from (length (now targets)) (length (now labels)) (length (now «weak_from»)) (length (now «weak_to»)) (now account)) ⌝ }
     ensures { λ q. ⌜ (
         let parts = rawParts (entry bytes) size start body
         (entry «class_kinds») (entry «slot_starts») (entry «slot_ends») (entry «slot_offsets») (entry «slot_labels») (entry «slot_weak»)

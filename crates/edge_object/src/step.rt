@@ -10,7 +10,7 @@ ghost use Rattle.columns.specs.Loans.{entry, exit};
 ghost use Rattle.index.specs.Copied.{idsOf};
 ghost use Rattle.edge_append.specs.Held.{SlotsIn, StaticsIn};
 ghost use Rattle.edge_append.specs.Raw.{BodyIn};
-ghost use Rattle.edge_append.specs.Object.{copiedParts, rawParts, Ready, Done};
+ghost use Rattle.edge_append.specs.Object.{copiedParts, rawParts, ObjectReady, Done};
 
 // Working offset o + 1 holds the mark of the class that is found at object o, and then where its edges end.
 pub fn step_copied(
@@ -62,7 +62,7 @@ pub fn step_copied(
         (now «class_kinds») (now «slot_starts») (now «slot_ends») (now «slot_labels») (now «slot_weak»)
         policy (now kinds ! o) (now classes ! o) (now lengths ! o) (now loaders)
         (now «static_starts») (now «static_ends») (now «static_names») (now «static_types») (now «static_values») (now working ! (o + 1)) in
-        Ready (now ids) parts from (length (now targets)) (length (now labels)) (length (now «weak_from»)) (length (now «weak_to»)) (now account)) ⌝ }
+        ObjectReady (now ids) parts from (length (now targets)) (length (now labels)) (length (now «weak_from»)) (length (now «weak_to»)) (now account)) ⌝ }
     ensures { λ q. ⌜ (
         let held = idsOf (entry codes) (entry «escape_places») (entry «escape_ids») base in
         let parts = copiedParts held (entry starts ! o)
@@ -166,7 +166,7 @@ pub fn step_raw(
         (now «class_kinds») (now «slot_starts») (now «slot_ends») (now «slot_offsets») (now «slot_labels») (now «slot_weak»)
         policy (now kinds ! o) (now classes ! o) (now lengths ! o) (now loaders)
         (now «static_starts») (now «static_ends») (now «static_names») (now «static_types») (now «static_values») (now working ! (o + 1)) in
-        Ready (now ids) parts from (length (now targets)) (length (now labels)) (length (now «weak_from»)) (length (now «weak_to»)) (now account)) ⌝ }
+        ObjectReady (now ids) parts from (length (now targets)) (length (now labels)) (length (now «weak_from»)) (length (now «weak_to»)) (now account)) ⌝ }
     ensures { λ q. ⌜ (
         let parts = rawParts (entry bytes) size (entry starts ! o) (entry bodies ! o)
         (entry «class_kinds») (entry «slot_starts») (entry «slot_ends») (entry «slot_offsets») (entry «slot_labels») (entry «slot_weak»)

@@ -18,7 +18,7 @@ use Rattle.rules.proofs.Acceptance.{Passed, objects-few, slots-few, slots-in, s
 use Rattle.rules.proofs.Acceptance.{Sound, size-allowed, size-good, slots-ordered, statics-ordered}
 use Rattle.rules.proofs.Even.{objects-even, copied-even, raw-even, EvenSchema, input-even}
 use Rattle.edge_append.specs.Held.{StaticsIn}
-use Rattle.edge_append.specs.Object.{marked}
+use Rattle.edge_append.specs.Object.{markClasses}
 use Rattle.edge_pass.specs.Range.{SlotsFrom, CopiedIn, RawIn, PartIn, ObjectIn}
 
 -- the codes of the copied route can be counted in 64 bits, as those of a slice can
@@ -34,7 +34,7 @@ module _ (x : Input) (p : Passed x) where
   even = input-even x (h .lengths)
 
   -- A mark is the class that is found at the object, and one: its statics and its loader stand in their columns.
-  mark-class : (o mark : ℕ) → marked mark ≡ classesAt x o → 0 < mark → mark - 1 < classCount (x .schema)
+  mark-class : (o mark : ℕ) → markClasses mark ≡ classesAt x o → 0 < mark → mark - 1 < classCount (x .schema)
   unfolding classesAt
   mark-class o zero e l = absurd (omega arith)
   mark-class o (suc c) e l =
@@ -42,7 +42,7 @@ module _ (x : Input) (p : Passed x) where
       let p : suc c - 1 ≡ c = omega arith in
       rw p (q .0 .0)
 
-  statics-at : (o mark : ℕ) → marked mark ≡ classesAt x o
+  statics-at : (o mark : ℕ) → markClasses mark ≡ classesAt x o
       → StaticsIn (x .schema .classes .staticStart) (x .schema .classes .staticEnd) (length (x .schema .statics .names)) (length (x .schema .statics .types)) (length (x .schema .statics .values)) mark
   statics-at o mark e = record {
     start-in = λ l. omega (arith, mark-class o mark e l, even .static-starts);
@@ -112,7 +112,7 @@ module _ (x : Input) (p : Passed x) where
     part-in (copied c) e f = copied-in c e f
     part-in (raw r) e f = raw-in r e
 
-  pub object-in : (wk : List ℕ) → objectCount x < length wk → CodesFit (x .route) → (o : ℕ) → o < objectCount x → marked (wk ! (o + 1)) ≡ classesAt x o → ObjectIn x wk o
+  pub object-in : (wk : List ℕ) → objectCount x < length wk → CodesFit (x .route) → (o : ℕ) → o < objectCount x → markClasses (wk ! (o + 1)) ≡ classesAt x o → ObjectIn x wk o
   object-in wk w f o l e = record {
     few = omega (arith, objects-few x h);
     kind = omega (arith, objects-even x (h .lengths) .0);
@@ -133,15 +133,15 @@ module _ (x : Input) (p : Passed x) where
         go i k true f = absurd (one-dumped x h o i n l k m f e)
         go i k false f = f
 
-    marks-to : (n : ℕ) → n ≤ classCount (x .schema) → marked (mark n) ≡ places (foundAt x o) n
-    marks-to zero m = ap marked first ∙ sym (no-places (foundAt x o) 0 (λ i k. absurd (not-suc-le-zero k)))
+    marks-to : (n : ℕ) → n ≤ classCount (x .schema) → markClasses (mark n) ≡ places (foundAt x o) n
+    marks-to zero m = ap markClasses first ∙ sym (no-places (foundAt x o) 0 (λ i k. absurd (not-suc-le-zero k)))
     marks-to (suc n) m = go (foundAt x o n) refl (marks-to n (omega arith))
       where
-        go : (b : Bool) → foundAt x o n ≡ b → marked (mark n) ≡ places (foundAt x o) n → marked (mark (suc n)) ≡ places (foundAt x o) (suc n)
-        go true e ih = ap marked (more n ∙ ap (λ (b : Bool). cond b (suc n) (mark n)) e)
+        go : (b : Bool) → foundAt x o n ≡ b → markClasses (mark n) ≡ places (foundAt x o) n → markClasses (mark (suc n)) ≡ places (foundAt x o) (suc n)
+        go true e ih = ap markClasses (more n ∙ ap (λ (b : Bool). cond b (suc n) (mark n)) e)
             ∙ sym (ap (places (foundAt x o)) (sym (add-one n)) ∙ places-hit (foundAt x o) n e ∙ ap (λ (ps : List ℕ). ps ++ (n ∷ [])) (none-before n (omega arith) e))
-        go false e ih = ap marked (more n ∙ ap (λ (b : Bool). cond b (suc n) (mark n)) e) ∙ ih ∙ sym (ap (places (foundAt x o)) (sym (add-one n)) ∙ places-miss (foundAt x o) n e)
+        go false e ih = ap markClasses (more n ∙ ap (λ (b : Bool). cond b (suc n) (mark n)) e) ∙ ih ∙ sym (ap (places (foundAt x o)) (sym (add-one n)) ∙ places-miss (foundAt x o) n e)
 
-    pub marks-tell : marked (mark (classCount (x .schema))) ≡ classesAt x o
+    pub marks-tell : markClasses (mark (classCount (x .schema))) ≡ classesAt x o
     unfolding classesAt
     marks-tell = marks-to (classCount (x .schema)) (omega arith)

@@ -8,16 +8,16 @@ use Rattle.columns.proofs.Sums.{tab-ext, leading-all, leading-ext}
 use Rattle.rules.specs.Types.{keeps}
 use Rattle.rules.specs.Input.{Input, Schema, Copied, Raw, Route.copied, Route.raw, rawId, slotCount, elementCount, idAt, slotId, elementSpot, elementId, fits, slotFits, readSlots, slotKept, classesAt}
 use Rattle.rules.specs.Edges.{slotRef, elementRef, staticRef, staticRefs, loaderRef, classRefs, slotRefs, otherRefs, refs, edgesOf, weakTargets, missingAt}
-use Rattle.edge_append.specs.Append.{edgesIn, weakIn, missingIn}
-use Rattle.edge_append.specs.Held.{keptOf, slotWith, elementWith, copiedSlot, copiedElement, copiedSlots, copiedElements, staticAt, staticFrom, staticsAt, loaderAt}
-use Rattle.edge_append.specs.Object.{together, copiedParts, copiedPartsOf, rawParts, rawPartsOf, marked}
+use Rattle.edge_append.specs.Append.{edgesAmong, weakAmong, missingAmong}
+use Rattle.edge_append.specs.Held.{keptOf, slotWith, elementWith, copiedSlot, copiedElement, copiedSlots, copiedElements, staticRefAt, staticFrom, staticsAt, loaderAt}
+use Rattle.edge_append.specs.Object.{together, copiedParts, copiedPartsOf, rawParts, rawPartsOf, markClasses}
 use Rattle.edge_append.specs.Raw.{bytesId, slotEnds, slotsRead, rawSlot, rawElement, rawSlots, rawElements}
 
 -- "Every slot of the copied route counts as fitting."
 -- A class's statics and its loader are its references.
 classes-same : (s : Schema) (mark : ℕ)
-    → staticsAt (s .classes .staticStart) (s .classes .staticEnd) (s .statics .names) (s .statics .types) (s .statics .values) mark ++ loaderAt (s .classes .loaders) mark ≡ flat (classRefs s) (marked mark)
-unfolding staticsAt loaderAt staticFrom staticAt classRefs staticRefs staticRef loaderRef
+    → staticsAt (s .classes .staticStart) (s .classes .staticEnd) (s .statics .names) (s .statics .types) (s .statics .values) mark ++ loaderAt (s .classes .loaders) mark ≡ flat (classRefs s) (markClasses mark)
+unfolding staticsAt loaderAt staticFrom staticRefAt classRefs staticRefs staticRef loaderRef
 classes-same s zero = refl
 classes-same s (suc d) = sym (append-nil _)
 
@@ -44,7 +44,7 @@ module _ (x : Input) (c : Copied) (e : x .route ≡ copied c) (o : ℕ) where
     elements-same = tab-ext _ _ _ (λ k l. element-same k)
 
   -- What `object_copied` appends is what the rules say of the object, where the mark tells which class is found at it.
-  pub copied-refs : (mark : ℕ) → classesAt x o ≡ marked mark → together (copiedPartsOf x c o mark) ≡ refs x o
+  pub copied-refs : (mark : ℕ) → classesAt x o ≡ markClasses mark → together (copiedPartsOf x c o mark) ≡ refs x o
   unfolding together refs otherRefs copiedPartsOf copiedParts
   copied-refs mark h = ap₂ _++_ (slots-same mark) (ap₂ _++_ (elements-same mark) (classes-same (x .schema) mark ∙ ap (flat (classRefs (x .schema))) (sym h)))
 
@@ -77,20 +77,20 @@ module _ (x : Input) (r : Raw) (e : x .route ≡ raw r) (o : ℕ) where
     raw-elements-same = tab-ext _ _ _ (λ k l. raw-element-same k)
 
   -- The same of `object_raw`.
-  pub raw-refs : (mark : ℕ) → classesAt x o ≡ marked mark → together (rawPartsOf x r o mark) ≡ refs x o
+  pub raw-refs : (mark : ℕ) → classesAt x o ≡ markClasses mark → together (rawPartsOf x r o mark) ≡ refs x o
   unfolding together refs otherRefs rawPartsOf rawParts
   raw-refs mark h = ap₂ _++_ (raw-slots-same mark) (ap₂ _++_ (raw-elements-same mark) (classes-same (x .schema) mark ∙ ap (flat (classRefs (x .schema))) (sym h)))
 
 -- The results of a list of references are the results of the object, if they are its references.
 module _ (x : Input) (o : ℕ) where
-  pub edges-of : edgesOf x o ≡ edgesIn (x .objects .ids) (refs x o)
-  unfolding edgesOf edgesIn
+  pub edges-of : edgesOf x o ≡ edgesAmong (x .objects .ids) (refs x o)
+  unfolding edgesOf edgesAmong
   edges-of = refl
 
-  pub weak-of : weakTargets x o ≡ weakIn (x .objects .ids) (refs x o)
-  unfolding weakTargets weakIn
+  pub weak-of : weakTargets x o ≡ weakAmong (x .objects .ids) (refs x o)
+  unfolding weakTargets weakAmong
   weak-of = refl
 
-  pub missing-of : missingAt x o ≡ missingIn (x .objects .ids) (refs x o)
-  unfolding missingAt missingIn
+  pub missing-of : missingAt x o ≡ missingAmong (x .objects .ids) (refs x o)
+  unfolding missingAt missingAmong
   missing-of = refl

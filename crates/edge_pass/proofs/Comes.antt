@@ -13,8 +13,8 @@ use Rattle.columns.proofs.Sums.{total-ext, length-collect, collect-ext, tab-ext
 use Rattle.sort.proofs.Sorted.{sort-length}
 use Rattle.rules.specs.Input.{Input, objectCount}
 use Rattle.rules.specs.Edges.{edgesOf, weakTargets, edges, offset, weakPairs, graph}
-use Rattle.edge_append.specs.Append.{edgesIn, weakIn, missingIn}
-use Rattle.edge_append.specs.Object.{Parts}
+use Rattle.edge_append.specs.Append.{edgesAmong, weakAmong, missingAmong}
+use Rattle.edge_append.specs.Object.{RefParts}
 use Rattle.edge_pass.specs.Walk.{edgesTo, weakTo, fromTo, missingTo, endsTo}
 use Rattle.edge_pass.proofs.Bridge.{edges-of, weak-of, missing-of}
 use Rattle.edge_pass.proofs.Runs.{runs-targets, runs-objects}
@@ -41,7 +41,7 @@ tab-front g zero = refl
 tab-front g (suc n) = ap (λ (l : List ℕ). l ++ (g (suc n) ∷ [])) (tab-front g n)
 
 -- The columns.
-module _ (x : Input) (p : ℕ → Parts) (agree : (i : ℕ) → i < objectCount x → Agrees x i (p i)) where
+module _ (x : Input) (p : ℕ → RefParts) (agree : (i : ℕ) → i < objectCount x → Agrees x i (p i)) where
   abbrev n : ℕ
   n = objectCount x
 
@@ -50,7 +50,7 @@ module _ (x : Input) (p : ℕ → Parts) (agree : (i : ℕ) → i < objectCount 
 
   edges-to : (m : ℕ) → m ≤ n → edgesTo ids p m ≡ collect (edgesOf x) m
   unfolding edgesTo
-  edges-to m h = collect-ext _ _ m (λ i l. ap (edgesIn ids) (agree i (omega arith) .references) ∙ sym (edges-of x i))
+  edges-to m h = collect-ext _ _ m (λ i l. ap (edgesAmong ids) (agree i (omega arith) .references) ∙ sym (edges-of x i))
 
   pub all-edges : edgesTo ids p n ≡ edges x
   unfolding edges
@@ -58,18 +58,18 @@ module _ (x : Input) (p : ℕ → Parts) (agree : (i : ℕ) → i < objectCount 
 
   pub all-weak : weakTo ids p n ≡ graph x .weakTo
   unfolding weakTo graph weakPairs
-  all-weak = collect-ext _ _ n (λ i l. ap (sort leb) (ap (weakIn ids) (agree i l .references) ∙ sym (weak-of x i))) ∙ sym (runs-targets (weakTargets x) n)
+  all-weak = collect-ext _ _ n (λ i l. ap (sort leb) (ap (weakAmong ids) (agree i l .references) ∙ sym (weak-of x i))) ∙ sym (runs-targets (weakTargets x) n)
 
   pub all-objects : fromTo ids p 0 n ≡ graph x .weakFrom
   unfolding fromTo graph weakPairs
   all-objects =
       collect-ext _ _ n
-      (λ i l. ap₂ (λ (k j : ℕ). replicate k j) (ap length (ap (weakIn ids) (agree i l .references) ∙ sym (weak-of x i)) ∙ sym (sort-length (weakTargets x i))) (zero-add i))
+      (λ i l. ap₂ (λ (k j : ℕ). replicate k j) (ap length (ap (weakAmong ids) (agree i l .references) ∙ sym (weak-of x i)) ∙ sym (sort-length (weakTargets x i))) (zero-add i))
       ∙ sym (runs-objects (weakTargets x) n)
 
   pub all-missing : missingTo ids p n ≡ graph x .dangling
   unfolding missingTo graph
-  all-missing = total-ext _ _ n (λ i l. ap (missingIn ids) (agree i l .references) ∙ sym (missing-of x i))
+  all-missing = total-ext _ _ n (λ i l. ap (missingAmong ids) (agree i l .references) ∙ sym (missing-of x i))
 
   pub all-offsets : 0 ∷ endsTo ids p 0 n ≡ graph x .offsets
   unfolding endsTo graph offset

@@ -11,9 +11,9 @@ use Rattle.rules.specs.Input.{Input, objectCount}
 use Rattle.rules.specs.Edges.{Kind, slot, element, static, loader, Ref, Outcome, weak, missing, outcome, missingOf, refEdge, refWeak, refs}
 use Rattle.rules.specs.Account.{ofKind, isEdge, isWeak, cell, accountRow, account, noAccount}
 use Rattle.rules.proofs.Account.{same-edge}
-use Rattle.edge_append.specs.Append.{edgesIn, weakIn, missingIn}
+use Rattle.edge_append.specs.Append.{edgesAmong, weakAmong, missingAmong}
 use Rattle.edge_append.specs.Account.{row}
-use Rattle.edge_append.specs.Object.{Parts, together}
+use Rattle.edge_append.specs.Object.{RefParts, together}
 use Rattle.edge_append.specs.declared.Pass.{Pass}
 use Rattle.edge_append.proofs.Tallies.{rows-four}
 use Rattle.edge_pass.specs.Walk.{cells, RowGrown, Walked}
@@ -25,7 +25,7 @@ same-kind element = refl
 same-kind static = refl
 same-kind loader = refl
 
-abbrev partOf : Kind → Parts → List Ref
+abbrev partOf : Kind → RefParts → List Ref
 partOf slot p = p .slots
 partOf element p = p .elements
 partOf static p = p .statics
@@ -47,7 +47,7 @@ module _ (ids : List ℕ) (is : Outcome → ℕ) where
   other k j f [] e = refl
   other k j f (r ∷ rs) e = ap₂ (λ (b : Bool) (m : ℕ). cond b (is (outcome ids r)) 0 + m) (ap (ofKind k) (e .0) ∙ f) (other k j f rs (e .1))
 
-  four : (f : Ref → ℕ) (p : Parts) → sum f (together p) ≡ sum f (p .slots) + (sum f (p .elements) + (sum f (p .statics) + sum f (p .loaders)))
+  four : (f : Ref → ℕ) (p : RefParts) → sum f (together p) ≡ sum f (p .slots) + (sum f (p .elements) + (sum f (p .statics) + sum f (p .loaders)))
   unfolding together
   four f p =
       omega (
@@ -57,7 +57,7 @@ module _ (ids : List ℕ) (is : Outcome → ℕ) where
         sum-append f (p .statics) (p .loaders),
       )
 
-  module _ (x : Input) (o : ℕ) (p : Parts) (a : Agrees x o p) where
+  module _ (x : Input) (o : ℕ) (p : RefParts) (a : Agrees x o p) where
     together-kind : (k : Kind) → countKind k (together p) ≡ countOf (partOf k p)
     together-kind slot = omega (arith, four (λ r. cond (ofKind slot (r .kind)) (is (outcome ids r)) 0) p, own slot (p .slots) (a .slots), other slot element refl (p .elements) (a .elements), other slot static refl (p .statics) (a .statics), other slot loader refl (p .loaders) (a .loaders))
     together-kind element = omega (arith, four (λ r. cond (ofKind element (r .kind)) (is (outcome ids r)) 0) p, own element (p .elements) (a .elements), other element slot refl (p .slots) (a .slots), other element static refl (p .statics) (a .statics), other element loader refl (p .loaders) (a .loaders))
@@ -67,7 +67,7 @@ module _ (ids : List ℕ) (is : Outcome → ℕ) where
     kind-refs : (k : Kind) → countKind k (refs x o) ≡ countOf (partOf k p)
     kind-refs k = ap (countKind k) (sym (a .references)) ∙ together-kind k
 
-module _ (x : Input) (p : ℕ → Parts) (agree : (i : ℕ) → i < objectCount x → Agrees x i (p i)) where
+module _ (x : Input) (p : ℕ → RefParts) (agree : (i : ℕ) → i < objectCount x → Agrees x i (p i)) where
   abbrev n : ℕ
   n = objectCount x
 
@@ -78,19 +78,19 @@ module _ (x : Input) (p : ℕ → Parts) (agree : (i : ℕ) → i < objectCount 
   unfolding cell
   cell-counts k is = total-ext _ _ n (λ i l. kind-refs ids is x i (p i) (agree i l) k) ∙ sym (sum-collect (λ r. is (outcome ids r)) (λ i. partOf k (p i)) n)
 
-  edge-cell : (k : Kind) → length (edgesIn ids (collect (λ i. partOf k (p i)) n)) ≡ cell x k isEdge
-  unfolding edgesIn
+  edge-cell : (k : Kind) → length (edgesAmong ids (collect (λ i. partOf k (p i)) n)) ≡ cell x k isEdge
+  unfolding edgesAmong
   edge-cell k =
       length-flat (refEdge ids) (collect (λ i. partOf k (p i)) n)
       ∙ sum-ext _ _ (λ r. sym (same-edge (r .label) (outcome ids r))) (collect (λ i. partOf k (p i)) n)
       ∙ sym (cell-counts k isEdge)
 
-  weak-cell : (k : Kind) → length (weakIn ids (collect (λ i. partOf k (p i)) n)) ≡ cell x k isWeak
-  unfolding weakIn
+  weak-cell : (k : Kind) → length (weakAmong ids (collect (λ i. partOf k (p i)) n)) ≡ cell x k isWeak
+  unfolding weakAmong
   weak-cell k = length-flat (refWeak ids) (collect (λ i. partOf k (p i)) n) ∙ sym (cell-counts k isWeak)
 
-  missing-cell : (k : Kind) → missingIn ids (collect (λ i. partOf k (p i)) n) ≡ cell x k missingOf
-  unfolding missingIn
+  missing-cell : (k : Kind) → missingAmong ids (collect (λ i. partOf k (p i)) n) ≡ cell x k missingOf
+  unfolding missingAmong
   missing-cell k = sym (cell-counts k missingOf)
 
   row-is : (k : Kind) (r : List ℕ) → RowGrown ids (0 ∷ 0 ∷ 0 ∷ []) r (collect (λ i. partOf k (p i)) n) → r ! 0 ∷ r ! 1 ∷ r ! 2 ∷ [] ≡ accountRow x k

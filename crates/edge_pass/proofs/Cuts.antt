@@ -10,8 +10,8 @@ use Rattle.columns.specs.Lists.{_!_, collect, tab, total, sort}
 use Rattle.columns.proofs.Lists.{tab-length}
 use Rattle.columns.proofs.Sums.{map-append, collect-ext, total-ext, collect-cut, total-cut}
 use Rattle.rules.specs.Input.{Input}
-use Rattle.edge_append.specs.Append.{edgesIn, weakIn, missingIn, targetOf, labelOf}
-use Rattle.edge_append.specs.Object.{Parts, together}
+use Rattle.edge_append.specs.Append.{edgesAmong, weakAmong, missingAmong, edgeTarget, edgeLabel}
+use Rattle.edge_append.specs.Object.{RefParts, together}
 use Rattle.edge_append.specs.declared.Pass.{Pass}
 use Rattle.edge_append.proofs.Appending.{sets-append}
 use Rattle.edge_pass.specs.Walk.{edgesTo, weakTo, fromTo, missingTo, endsTo, Walked}
@@ -19,31 +19,31 @@ use Rattle.edge_pass.specs.Range.{partsFrom}
 use Rattle.edge_pass.proofs.Walks.{row-on, from-length, mark-kept}
 
 -- The parts of the second range are those behind the first m.
-module _ (ids : List ℕ) (p p′ : ℕ → Parts) (m : ℕ) (e : (i : ℕ) → p′ i ≡ p (m + i)) where
+module _ (ids : List ℕ) (p p′ : ℕ → RefParts) (m : ℕ) (e : (i : ℕ) → p′ i ≡ p (m + i)) where
   -- a list, or a number, of the parts of both ranges
-  both : {A : Type 0} (f : Parts → List A) (n : ℕ) → collect (λ i. f (p i)) (m + n) ≡ collect (λ i. f (p i)) m ++ collect (λ i. f (p′ i)) n
+  both : {A : Type 0} (f : RefParts → List A) (n : ℕ) → collect (λ i. f (p i)) (m + n) ≡ collect (λ i. f (p i)) m ++ collect (λ i. f (p′ i)) n
   both f n = collect-cut (λ i. f (p i)) m n ∙ ap (λ l. collect (λ i. f (p i)) m ++ l) (collect-ext _ _ n (λ i l. ap f (sym (e i))))
 
   edges-both : (n : ℕ) → edgesTo ids p (m + n) ≡ edgesTo ids p m ++ edgesTo ids p′ n
   unfolding edgesTo
-  edges-both n = both (λ q. edgesIn ids (together q)) n
+  edges-both n = both (λ q. edgesAmong ids (together q)) n
 
   weak-both : (n : ℕ) → weakTo ids p (m + n) ≡ weakTo ids p m ++ weakTo ids p′ n
   unfolding weakTo
-  weak-both n = both (λ q. sort leb (weakIn ids (together q))) n
+  weak-both n = both (λ q. sort leb (weakAmong ids (together q))) n
 
   from-both : (first n : ℕ) → fromTo ids p first (m + n) ≡ fromTo ids p first m ++ fromTo ids p′ (first + m) n
   unfolding fromTo
   from-both first n =
-      collect-cut (λ i. replicate (length (weakIn ids (together (p i)))) (first + i)) m n
-      ∙ ap (λ l. collect (λ i. replicate (length (weakIn ids (together (p i)))) (first + i)) m ++ l)
-      (collect-ext _ _ n (λ i l. let z : first + (m + i) ≡ first + m + i = omega arith in ap₂ (λ (q : Parts) (o : ℕ). replicate (length (weakIn ids (together q))) o) (sym (e i)) z))
+      collect-cut (λ i. replicate (length (weakAmong ids (together (p i)))) (first + i)) m n
+      ∙ ap (λ l. collect (λ i. replicate (length (weakAmong ids (together (p i)))) (first + i)) m ++ l)
+      (collect-ext _ _ n (λ i l. let z : first + (m + i) ≡ first + m + i = omega arith in ap₂ (λ (q : RefParts) (o : ℕ). replicate (length (weakAmong ids (together q))) o) (sym (e i)) z))
 
   missing-both : (n : ℕ) → missingTo ids p (m + n) ≡ missingTo ids p m + missingTo ids p′ n
   unfolding missingTo
   missing-both n =
-      total-cut (λ i. missingIn ids (together (p i))) m n
-      ∙ ap (λ (k : ℕ). total (λ i. missingIn ids (together (p i))) m + k) (total-ext _ _ n (λ i l. ap (λ (q : Parts). missingIn ids (together q)) (sym (e i))))
+      total-cut (λ i. missingAmong ids (together (p i))) m n
+      ∙ ap (λ (k : ℕ). total (λ i. missingAmong ids (together (p i))) m + k) (total-ext _ _ n (λ i l. ap (λ (q : RefParts). missingAmong ids (together q)) (sym (e i))))
 
   ends-both : (from q n : ℕ) → q ≡ from + length (edgesTo ids p m) → endsTo ids p from (m + n) ≡ endsTo ids p from m ++ endsTo ids p′ q n
   unfolding endsTo tab
@@ -68,8 +68,8 @@ module _ (ids : List ℕ) (p p′ : ℕ → Parts) (m : ℕ) (e : (i : ℕ) → 
           let es′ = edgesTo ids p′ n in
           let at : first + m + 1 ≡ first + 1 + m = omega arith in
           record {
-            targets = w .targets ∙ rw (v .targets, v .next, edges-both n, map-append targetOf es es′) (sets-append ts (map targetOf es) (map targetOf es′) (s .edges) (length es) (sym (length-map es targetOf)));
-            labels = w .labels ∙ rw (v .labels, v .next, edges-both n, map-append labelOf es es′) (sets-append ls (map labelOf es) (map labelOf es′) (s .edges) (length es) (sym (length-map es labelOf)));
+            targets = w .targets ∙ rw (v .targets, v .next, edges-both n, map-append edgeTarget es es′) (sets-append ts (map edgeTarget es) (map edgeTarget es′) (s .edges) (length es) (sym (length-map es edgeTarget)));
+            labels = w .labels ∙ rw (v .labels, v .next, edges-both n, map-append edgeLabel es es′) (sets-append ls (map edgeLabel es) (map edgeLabel es′) (s .edges) (length es) (sym (length-map es edgeLabel)));
             objects = w .objects ∙ rw (v .objects, v .next-weak, from-both first n) (sets-append fs (fromTo ids p first m) (fromTo ids p′ (first + m) n) (s .weak) (length (weakTo ids p m)) (sym (from-length ids p first m)));
             weaks = w .weaks ∙ rw (v .weaks, v .next-weak, weak-both n) (sets-append ws (weakTo ids p m) (weakTo ids p′ n) (s .weak) (length (weakTo ids p m)) refl);
             ends = w .ends ∙ rw (v .ends, at, ends-both (s .edges) (q .edges) n (v .next)) (sets-append wk (endsTo ids p (s .edges) m) (endsTo ids p′ (q .edges) n) (first + 1) m (sym (ends-length (s .edges))));

@@ -25,11 +25,11 @@ use Rattle.rules.proofs.Acceptance.{Passed, check-passed, objects-few, ids-rise
 use Rattle.rules.proofs.Passes.{edges-within}
 use Rattle.rules.proofs.Bounds.{missing-below}
 use Rattle.edge_append.specs.Account.{RowIn, AccountIn}
-use Rattle.edge_append.specs.Append.{targetOf, labelOf}
-use Rattle.edge_append.specs.Object.{Parts, copiedPartsOf, rawPartsOf}
+use Rattle.edge_append.specs.Append.{edgeTarget, edgeLabel}
+use Rattle.edge_append.specs.Object.{RefParts, copiedPartsOf, rawPartsOf}
 use Rattle.edge_append.specs.declared.Pass.{Pass}
 use Rattle.edge_pass.specs.Walk.{edgesTo, weakTo, endsTo, Walked, WalkRoom}
-use Rattle.edge_pass.specs.Range.{partsOf, partsFrom, PartIn, ObjectIn}
+use Rattle.edge_pass.specs.Range.{refPartsOf, partsFrom, PartIn, ObjectIn}
 use Rattle.edge_pass.specs.Tables.{narrowTo, offsetsFor, narrow, Passable}
 use Rattle.edge_pass.specs.Stage.{Handed, withPass, edgesSaid, Edged, HandedFrom, EdgedFrom}
 use Rattle.edge_pass.proofs.Walks.{from-length}
@@ -54,8 +54,8 @@ object-narrow x {wk} {o} h = record {
   loader = h .loader;
 }
 
-parts-narrow : (x : Input) (o mark : ℕ) (t : Route) → partsOf (narrowTo x (offsetsFor x t)) t o mark ≡ partsOf x t o mark
-unfolding partsOf copiedPartsOf rawPartsOf
+parts-narrow : (x : Input) (o mark : ℕ) (t : Route) → refPartsOf (narrowTo x (offsetsFor x t)) t o mark ≡ refPartsOf x t o mark
+unfolding refPartsOf copiedPartsOf rawPartsOf
 parts-narrow x o mark (copied c) = refl
 parts-narrow x o mark (raw r) = refl
 
@@ -85,23 +85,23 @@ module _ (x : Input) {nt nl nf nw : ℕ} {wk : List ℕ} {a : List (List ℕ)} (
       let z : i ≡ 0 + i = omega arith in
       subst (ObjectIn (narrow x) wk) z (object-narrow x (object-in x passed wk (d .offsets) f i l (d .marks i l)))
 
-  abbrev parts : ℕ → Parts
+  abbrev parts : ℕ → RefParts
   parts = partsFrom (narrow x) wk 0
 
   agree : (i : ℕ) → i < objectCount x → Agrees x i (parts i)
   unfolding partsFrom
   agree i l =
       let z : i ≡ 0 + i = omega arith in
-      subst (λ (o : ℕ). Agrees x i (partsOf (narrow x) (x .route) o (wk ! (o + 1)))) z
+      subst (λ (o : ℕ). Agrees x i (refPartsOf (narrow x) (x .route) o (wk ! (o + 1)))) z
       (subst (Agrees x i) (sym (parts-narrow x i (wk ! (i + 1)) (x .route))) (agrees x i (wk ! (i + 1)) (x .route) refl (d .marks i l)))
 
   edge-number : length (edgesTo (x .objects .ids) parts (objectCount x)) ≡ length (graph x .targets)
   unfolding graph
-  edge-number = ap length (all-edges x parts agree) ∙ sym (length-map (edges x) targetOf)
+  edge-number = ap length (all-edges x parts agree) ∙ sym (length-map (edges x) edgeTarget)
 
   label-number : length (graph x .labels) ≡ length (graph x .targets)
   unfolding graph
-  label-number = length-map (edges x) labelOf ∙ sym (length-map (edges x) targetOf)
+  label-number = length-map (edges x) edgeLabel ∙ sym (length-map (edges x) edgeTarget)
 
   weak-number : length (weakTo (x .objects .ids) parts (objectCount x)) ≡ length (graph x .weakFrom)
   weak-number = sym (from-length (x .objects .ids) parts 0 (objectCount x)) ∙ ap length (all-objects x parts agree)
@@ -137,12 +137,12 @@ module _
 
     targets-left : ts′ ≡ over (graph x .targets) ts
     unfolding graph
-    targets-left = w .targets ∙ ap (λ es. sets ts 0 (map targetOf es)) (all-edges x (parts x d) (agree x d)) ∙ over-front (graph x .targets) ts (omega (arith, edges-within x, d .targets))
+    targets-left = w .targets ∙ ap (λ es. sets ts 0 (map edgeTarget es)) (all-edges x (parts x d) (agree x d)) ∙ over-front (graph x .targets) ts (omega (arith, edges-within x, d .targets))
 
     labels-left : ls′ ≡ over (graph x .labels) ls
     unfolding graph
     labels-left =
-        w .labels ∙ ap (λ es. sets ls 0 (map labelOf es)) (all-edges x (parts x d) (agree x d)) ∙ over-front (graph x .labels) ls (omega (arith, label-number x d, edges-within x, d .labels))
+        w .labels ∙ ap (λ es. sets ls 0 (map edgeLabel es)) (all-edges x (parts x d) (agree x d)) ∙ over-front (graph x .labels) ls (omega (arith, label-number x d, edges-within x, d .labels))
 
     objects-left : fs′ ≡ over (graph x .weakFrom) fs
     objects-left = w .objects ∙ ap (sets fs 0) (all-objects x (parts x d) (agree x d)) ∙ over-front (graph x .weakFrom) fs (omega (arith, weak-room x d, d .objects))

@@ -13,15 +13,15 @@ use Rattle.columns.proofs.Lists.{tab-length}
 use Rattle.columns.proofs.Sums.{map-append, length-collect, total-mono}
 use Rattle.sort.proofs.Sorted.{sort-length}
 use Rattle.rules.specs.Edges.{Ref, Edge}
-use Rattle.edge_append.specs.Append.{edgesIn, weakIn, missingIn, targetOf, labelOf}
+use Rattle.edge_append.specs.Append.{edgesAmong, weakAmong, missingAmong, edgeTarget, edgeLabel}
 use Rattle.edge_append.specs.Account.{row, rowWith, RowIn, AccountIn, accountWith}
-use Rattle.edge_append.specs.Object.{Parts, together, Ready, Done}
+use Rattle.edge_append.specs.Object.{RefParts, together, ObjectReady, Done}
 use Rattle.edge_pass.specs.Walk.{edgesTo, weakTo, fromTo, missingTo, endsTo, cells, RowGrown, Walked, WalkRoom}
 use Rattle.edge_append.specs.declared.Pass.{Pass}
 use Rattle.edge_append.proofs.Appending.{sets-append, edges-append, weak-append, missing-append}
 
 pub row-same : {ids r : List ℕ} → RowGrown ids r r []
-unfolding edgesIn weakIn missingIn
+unfolding edgesAmong weakAmong missingAmong
 row-same = record { edges = sym (add-zero _); weak = sym (add-zero _); missing = sym (add-zero _) }
 
 row-with : (ids r : List ℕ) (rs : List Ref) → RowGrown ids r (rowWith ids r rs) rs
@@ -30,12 +30,12 @@ row-with ids r rs = record { edges = refl; weak = refl; missing = refl }
 
 pub row-on : {ids r r′ r″ : List ℕ} {rs qs : List Ref} → RowGrown ids r r′ rs → RowGrown ids r′ r″ qs → RowGrown ids r r″ (rs ++ qs)
 row-on {ids} {rs = rs} {qs = qs} g h = record {
-  edges = rw (edges-append ids rs qs) (omega (arith, g .edges, h .edges, length-append (edgesIn ids rs) (edgesIn ids qs)));
-  weak = rw (weak-append ids rs qs) (omega (arith, g .weak, h .weak, length-append (weakIn ids rs) (weakIn ids qs)));
+  edges = rw (edges-append ids rs qs) (omega (arith, g .edges, h .edges, length-append (edgesAmong ids rs) (edgesAmong ids qs)));
+  weak = rw (weak-append ids rs qs) (omega (arith, g .weak, h .weak, length-append (weakAmong ids rs) (weakAmong ids qs)));
   missing = omega (arith, g .missing, h .missing, missing-append ids rs qs);
 }
 
-pub walk-none : {ids : List ℕ} (p : ℕ → Parts) {first : ℕ} {s : Pass} {ts ls fs ws wk : List ℕ} {a : List (List ℕ)} → Walked ids p first 0 s s ts ls fs ws wk a ts ls fs ws wk a
+pub walk-none : {ids : List ℕ} (p : ℕ → RefParts) {first : ℕ} {s : Pass} {ts ls fs ws wk : List ℕ} {a : List (List ℕ)} → Walked ids p first 0 s s ts ls fs ws wk a ts ls fs ws wk a
 unfolding edgesTo weakTo fromTo missingTo endsTo tab
 walk-none p = record {
   targets = refl;
@@ -54,16 +54,16 @@ walk-none p = record {
 }
 
 -- as many numbers as targets
-pub from-length : (ids : List ℕ) (p : ℕ → Parts) (first n : ℕ) → length (fromTo ids p first n) ≡ length (weakTo ids p n)
+pub from-length : (ids : List ℕ) (p : ℕ → RefParts) (first n : ℕ) → length (fromTo ids p first n) ≡ length (weakTo ids p n)
 unfolding fromTo weakTo
 from-length ids p first zero = refl
 from-length ids p first (suc n) =
-    let vs = weakIn ids (together (p n)) in
+    let vs = weakAmong ids (together (p n)) in
     length-append (fromTo ids p first n) (replicate (length vs) (first + n))
     ∙ omega (arith, from-length ids p first n, length-replicate (length vs) (first + n), sort-length vs, length-append (weakTo ids p n) (sort leb vs))
 
 -- where the object's edges end is written behind the ends before
-ends-more : (ids : List ℕ) (p : ℕ → Parts) (first n e : ℕ) (wk : List ℕ) {wk′ : List ℕ} {u : ℕ} → wk′ ≡ sets wk (first + 1) (endsTo ids p e n) → u ≡ e + length (edgesTo ids p (suc n))
+ends-more : (ids : List ℕ) (p : ℕ → RefParts) (first n e : ℕ) (wk : List ℕ) {wk′ : List ℕ} {u : ℕ} → wk′ ≡ sets wk (first + 1) (endsTo ids p e n) → u ≡ e + length (edgesTo ids p (suc n))
     → set wk′ (first + n + 1) u ≡ sets wk (first + 1) (endsTo ids p e (suc n))
 unfolding endsTo tab
 ends-more ids p first n e wk w h =
@@ -72,7 +72,7 @@ ends-more ids p first n e wk w h =
     rw (w, at, h) (sets-append wk us ((e + length (edgesTo ids p (suc n))) ∷ []) (first + 1) n (sym (tab-length (λ i. e + length (edgesTo ids p (suc i))) n)))
 
 module _
-    {ids : List ℕ} (p : ℕ → Parts) {first n : ℕ} {s q : Pass} {ts ls fs ws wk : List ℕ} {a : List (List ℕ)} {ts′ ls′ fs′ ws′ wk′ : List ℕ} {a′ : List (List ℕ)}
+    {ids : List ℕ} (p : ℕ → RefParts) {first n : ℕ} {s q : Pass} {ts ls fs ws wk : List ℕ} {a : List (List ℕ)} {ts′ ls′ fs′ ws′ wk′ : List ℕ} {a′ : List (List ℕ)}
     (w : Walked ids p first n s q ts ls fs ws wk a ts′ ls′ fs′ ws′ wk′ a′)
   where
     pub walk-more : {u : Pass} {ts″ ls″ fs″ ws″ wk″ : List ℕ} {a″ : List (List ℕ)} → Done ids (p n) (first + n) q u ts′ ls′ fs′ ws′ a′ ts″ ls″ fs″ ws″ a″
@@ -80,13 +80,13 @@ module _
     unfolding edgesTo weakTo fromTo missingTo accountWith rowWith cells
     walk-more {u} d o =
         let es = edgesTo ids p n in
-        let fresh = edgesIn ids (together (p n)) in
-        let vs = weakIn ids (together (p n)) in
+        let fresh = edgesAmong ids (together (p n)) in
+        let vs = weakAmong ids (together (p n)) in
         let next : u .edges ≡ s .edges + length (es ++ fresh) = omega (arith, w .next, d .object .next, length-append es fresh) in
         rw (add-one n)
         (record {
-          targets = d .object .targets ∙ rw (w .targets, w .next, map-append targetOf es fresh) (sets-append ts (map targetOf es) (map targetOf fresh) (s .edges) (length es) (sym (length-map es targetOf)));
-          labels = d .object .labels ∙ rw (w .labels, w .next, map-append labelOf es fresh) (sets-append ls (map labelOf es) (map labelOf fresh) (s .edges) (length es) (sym (length-map es labelOf)));
+          targets = d .object .targets ∙ rw (w .targets, w .next, map-append edgeTarget es fresh) (sets-append ts (map edgeTarget es) (map edgeTarget fresh) (s .edges) (length es) (sym (length-map es edgeTarget)));
+          labels = d .object .labels ∙ rw (w .labels, w .next, map-append edgeLabel es fresh) (sets-append ls (map edgeLabel es) (map edgeLabel fresh) (s .edges) (length es) (sym (length-map es edgeLabel)));
           objects = d .object .objects ∙ rw (w .objects, w .next-weak) (sets-append fs (fromTo ids p first n) (replicate (length vs) (first + n)) (s .weak) (length (weakTo ids p n)) (sym (from-length ids p first n)));
           weaks = d .object .weaks ∙ rw (w .weaks, w .next-weak) (sets-append ws (weakTo ids p n) (sort leb vs) (s .weak) (length (weakTo ids p n)) refl);
           ends = o ∙ ends-more ids p first n (s .edges) wk (w .ends) next;
@@ -101,27 +101,27 @@ module _
         })
 
 -- Room for a range is room for each of its objects.
-module _ (ids : List ℕ) (p : ℕ → Parts) (k n : ℕ) (h : k < n) where
-  edges-fit : length (edgesTo ids p k) + length (edgesIn ids (together (p k))) ≤ length (edgesTo ids p n)
+module _ (ids : List ℕ) (p : ℕ → RefParts) (k n : ℕ) (h : k < n) where
+  edges-fit : length (edgesTo ids p k) + length (edgesAmong ids (together (p k))) ≤ length (edgesTo ids p n)
   unfolding edgesTo
   edges-fit =
-      let f : ℕ → List Edge = λ i. edgesIn ids (together (p i)) in
+      let f : ℕ → List Edge = λ i. edgesAmong ids (together (p i)) in
       rw (length-collect f k, length-collect f n) (total-mono (λ i. length (f i)) n k h)
 
-  weak-fit : length (weakTo ids p k) + length (weakIn ids (together (p k))) ≤ length (weakTo ids p n)
+  weak-fit : length (weakTo ids p k) + length (weakAmong ids (together (p k))) ≤ length (weakTo ids p n)
   unfolding weakTo
   weak-fit =
-      let f : ℕ → List ℕ = λ i. sort leb (weakIn ids (together (p i))) in
+      let f : ℕ → List ℕ = λ i. sort leb (weakAmong ids (together (p i))) in
       let m = total-mono (λ i. length (f i)) n k h in
-      omega (arith, m, length-collect f k, length-collect f n, sort-length (weakIn ids (together (p k))))
+      omega (arith, m, length-collect f k, length-collect f n, sort-length (weakAmong ids (together (p k))))
 
-  missing-fit : missingTo ids p k + missingIn ids (together (p k)) ≤ missingTo ids p n
+  missing-fit : missingTo ids p k + missingAmong ids (together (p k)) ≤ missingTo ids p n
   unfolding missingTo
-  missing-fit = total-mono (λ i. missingIn ids (together (p i))) n k h
+  missing-fit = total-mono (λ i. missingAmong ids (together (p i))) n k h
 
-pub walk-ready : {ids : List ℕ} (p : ℕ → Parts) {first k : ℕ} {s q : Pass} {ts ls fs ws wk : List ℕ} {a : List (List ℕ)} {ts′ ls′ fs′ ws′ wk′ : List ℕ} {a′ : List (List ℕ)}
+pub walk-ready : {ids : List ℕ} (p : ℕ → RefParts) {first k : ℕ} {s q : Pass} {ts ls fs ws wk : List ℕ} {a : List (List ℕ)} {ts′ ls′ fs′ ws′ wk′ : List ℕ} {a′ : List (List ℕ)}
     → Walked ids p first k s q ts ls fs ws wk a ts′ ls′ fs′ ws′ wk′ a′ → {n : ℕ} → WalkRoom ids p n s (length ts) (length ls) (length fs) (length ws) → k < n → AccountIn a′ q
-    → Ready ids (p k) q (length ts′) (length ls′) (length fs′) (length ws′) a′
+    → ObjectReady ids (p k) q (length ts′) (length ls′) (length fs′) (length ws′) a′
 walk-ready {ids} p {first} {k} {s} {q} {ts} {ls} {fs} {ws} w {n} r h i =
     let e = edges-fit ids p k n h in
     let v = weak-fit ids p k n h in
@@ -129,8 +129,8 @@ walk-ready {ids} p {first} {k} {s} {q} {ts} {ls} {fs} {ws} w {n} r h i =
       room = record {
         rising = r .rising;
         few = r .few;
-        targets = omega (arith, e, w .next, r .targets, ap length (w .targets), length-sets ts (s .edges) (map targetOf (edgesTo ids p k)));
-        labels = omega (arith, e, w .next, r .labels, ap length (w .labels), length-sets ls (s .edges) (map labelOf (edgesTo ids p k)));
+        targets = omega (arith, e, w .next, r .targets, ap length (w .targets), length-sets ts (s .edges) (map edgeTarget (edgesTo ids p k)));
+        labels = omega (arith, e, w .next, r .labels, ap length (w .labels), length-sets ls (s .edges) (map edgeLabel (edgesTo ids p k)));
         weaks = omega (arith, v, w .next-weak, r .weaks, ap length (w .weaks), length-sets ws (s .weak) (weakTo ids p k));
         missing = omega (arith, missing-fit ids p k n h, w .lost, r .missing);
       };
@@ -139,28 +139,28 @@ walk-ready {ids} p {first} {k} {s} {q} {ts} {ls} {fs} {ws} w {n} r h i =
     }
 
 -- The account of an object stays within the state.
-module _ (ids : List ℕ) (p : Parts) where
-  edges-four : length (edgesIn ids (together p)) ≡ length (edgesIn ids (p .slots)) + (length (edgesIn ids (p .elements)) + (length (edgesIn ids (p .statics)) + length (edgesIn ids (p .loaders))))
+module _ (ids : List ℕ) (p : RefParts) where
+  edges-four : length (edgesAmong ids (together p)) ≡ length (edgesAmong ids (p .slots)) + (length (edgesAmong ids (p .elements)) + (length (edgesAmong ids (p .statics)) + length (edgesAmong ids (p .loaders))))
   unfolding together
   edges-four =
       rw (edges-append ids (p .slots) (p .elements ++ (p .statics ++ p .loaders)), edges-append ids (p .elements) (p .statics ++ p .loaders), edges-append ids (p .statics) (p .loaders))
-      (length-append (edgesIn ids (p .slots)) _ ∙ ap (λ (n : ℕ). length (edgesIn ids (p .slots)) + n) (length-append (edgesIn ids (p .elements)) _ ∙ ap (λ (n : ℕ). length (edgesIn ids (p .elements)) + n) (length-append (edgesIn ids (p .statics)) (edgesIn ids (p .loaders)))))
+      (length-append (edgesAmong ids (p .slots)) _ ∙ ap (λ (n : ℕ). length (edgesAmong ids (p .slots)) + n) (length-append (edgesAmong ids (p .elements)) _ ∙ ap (λ (n : ℕ). length (edgesAmong ids (p .elements)) + n) (length-append (edgesAmong ids (p .statics)) (edgesAmong ids (p .loaders)))))
 
-  weak-four : length (weakIn ids (together p)) ≡ length (weakIn ids (p .slots)) + (length (weakIn ids (p .elements)) + (length (weakIn ids (p .statics)) + length (weakIn ids (p .loaders))))
+  weak-four : length (weakAmong ids (together p)) ≡ length (weakAmong ids (p .slots)) + (length (weakAmong ids (p .elements)) + (length (weakAmong ids (p .statics)) + length (weakAmong ids (p .loaders))))
   unfolding together
   weak-four =
       rw (weak-append ids (p .slots) (p .elements ++ (p .statics ++ p .loaders)), weak-append ids (p .elements) (p .statics ++ p .loaders), weak-append ids (p .statics) (p .loaders))
-      (length-append (weakIn ids (p .slots)) _ ∙ ap (λ (n : ℕ). length (weakIn ids (p .slots)) + n) (length-append (weakIn ids (p .elements)) _ ∙ ap (λ (n : ℕ). length (weakIn ids (p .elements)) + n) (length-append (weakIn ids (p .statics)) (weakIn ids (p .loaders)))))
+      (length-append (weakAmong ids (p .slots)) _ ∙ ap (λ (n : ℕ). length (weakAmong ids (p .slots)) + n) (length-append (weakAmong ids (p .elements)) _ ∙ ap (λ (n : ℕ). length (weakAmong ids (p .elements)) + n) (length-append (weakAmong ids (p .statics)) (weakAmong ids (p .loaders)))))
 
-  missing-four : missingIn ids (together p) ≡ missingIn ids (p .slots) + (missingIn ids (p .elements) + (missingIn ids (p .statics) + missingIn ids (p .loaders)))
+  missing-four : missingAmong ids (together p) ≡ missingAmong ids (p .slots) + (missingAmong ids (p .elements) + (missingAmong ids (p .statics) + missingAmong ids (p .loaders)))
   unfolding together
   missing-four = omega (arith, missing-append ids (p .slots) (p .elements ++ (p .statics ++ p .loaders)), missing-append ids (p .elements) (p .statics ++ p .loaders), missing-append ids (p .statics) (p .loaders))
 
-  row-within : (r : List ℕ) {s q : Pass} (rs : List Ref) → RowIn r s → s .edges + length (edgesIn ids rs) ≤ q .edges → s .weak + length (weakIn ids rs) ≤ q .weak → s .missing + missingIn ids rs ≤ q .missing → RowIn (rowWith ids r rs) q
+  row-within : (r : List ℕ) {s q : Pass} (rs : List Ref) → RowIn r s → s .edges + length (edgesAmong ids rs) ≤ q .edges → s .weak + length (weakAmong ids rs) ≤ q .weak → s .missing + missingAmong ids rs ≤ q .missing → RowIn (rowWith ids r rs) q
   unfolding rowWith
   row-within r rs h e w m = record { edges = omega (arith, h .edges); weak = omega (arith, h .weak); missing = omega (arith, h .missing) }
 
-pub done-account : {ids : List ℕ} {p : Parts} {o : ℕ} {s q : Pass} {ts ls fs ws : List ℕ} {a : List (List ℕ)} {ts′ ls′ fs′ ws′ : List ℕ} {a′ : List (List ℕ)}
+pub done-account : {ids : List ℕ} {p : RefParts} {o : ℕ} {s q : Pass} {ts ls fs ws : List ℕ} {a : List (List ℕ)} {ts′ ls′ fs′ ws′ : List ℕ} {a′ : List (List ℕ)}
     → Done ids p o s q ts ls fs ws a ts′ ls′ fs′ ws′ a′ → AccountIn a s → AccountIn a′ q
 unfolding accountWith
 done-account {ids} {p} {a = a} d i =
@@ -181,7 +181,7 @@ sets-beyond : (l us : List ℕ) (i j : ℕ) → i + length us ≤ j → sets l i
 sets-beyond l [] i j h = refl
 sets-beyond l (u ∷ us) i j h = sets-beyond (set l i u) us (suc i) j (omega arith) ∙ getD-set-other l i j u 0 (λ e. omega arith)
 
-pub mark-kept : {ids : List ℕ} (p : ℕ → Parts) {first k : ℕ} {s q : Pass} {ts ls fs ws wk : List ℕ} {a : List (List ℕ)} {ts′ ls′ fs′ ws′ wk′ : List ℕ} {a′ : List (List ℕ)}
+pub mark-kept : {ids : List ℕ} (p : ℕ → RefParts) {first k : ℕ} {s q : Pass} {ts ls fs ws wk : List ℕ} {a : List (List ℕ)} {ts′ ls′ fs′ ws′ wk′ : List ℕ} {a′ : List (List ℕ)}
     → Walked ids p first k s q ts ls fs ws wk a ts′ ls′ fs′ ws′ wk′ a′ → (j : ℕ) → first + k < j → wk′ ! j ≡ wk ! j
 unfolding endsTo
 mark-kept {ids} p {first} {k} {s} {wk = wk} w j h =

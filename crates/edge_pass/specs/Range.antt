@@ -7,15 +7,15 @@ use Rattle.columns.specs.Lists.{_!_}
 use Rattle.rules.specs.Input.{Input, Copied, Raw, Route, Route.copied, Route.raw}
 use Rattle.edge_append.specs.Held.{SlotsIn, StaticsIn}
 use Rattle.edge_append.specs.Raw.{BodyIn}
-use Rattle.edge_append.specs.Object.{Parts, copiedPartsOf, rawPartsOf}
+use Rattle.edge_append.specs.Object.{RefParts, copiedPartsOf, rawPartsOf}
 
-unfoldable pub partsOf : Input → Route → ℕ → ℕ → Parts
-partsOf x (copied c) o mark = copiedPartsOf x c o mark
-partsOf x (raw r) o mark = rawPartsOf x r o mark
+unfoldable pub refPartsOf : Input → Route → ℕ → ℕ → RefParts
+refPartsOf x (copied c) o mark = copiedPartsOf x c o mark
+refPartsOf x (raw r) o mark = rawPartsOf x r o mark
 
 -- The objects from `first` on: working offset o + 1 holds the mark of the class that is found at object o.
-unfoldable pub partsFrom : Input → List ℕ → ℕ → ℕ → Parts
-partsFrom x working first i = partsOf x (x .route) (first + i) (working ! (first + i + 1))
+unfoldable pub partsFrom : Input → List ℕ → ℕ → ℕ → RefParts
+partsFrom x working first i = refPartsOf x (x .route) (first + i) (working ! (first + i + 1))
 
 -- The slots of an instance stand in their columns, and its ids have places from `start` on.
 abbrev pub SlotsFrom : Input → ℕ → ℕ → Type 0

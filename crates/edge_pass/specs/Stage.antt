@@ -15,7 +15,7 @@ use Rattle.rules.specs.Places.{placeCount}
 use Rattle.rules.specs.Needs.{needWeak}
 use Rattle.rules.specs.Verdict.{checkSays}
 use Rattle.rules.specs.Account.{account, noAccount}
-use Rattle.edge_append.specs.Object.{marked}
+use Rattle.edge_append.specs.Object.{markClasses}
 use Rattle.edge_append.specs.declared.Pass.{Pass}
 use Rattle.edge_pass.specs.Tables.{narrow}
 
@@ -28,7 +28,7 @@ pub record Handed (x : Input) (nt nl nf nw : ℕ) (working : List ℕ) (a : List
   pub weaks : needWeak x ≤ nw
   pub offsets : objectCount x < length working
   pub front : working ! 0 ≡ 0
-  pub marks : (o : ℕ) → o < objectCount x → marked (working ! (o + 1)) ≡ classesAt x o
+  pub marks : (o : ℕ) → o < objectCount x → markClasses (working ! (o + 1)) ≡ classesAt x o
   pub nothing : a ≡ noAccount
 
 -- The answer so far with what the pass came to: a refusal stands.

@@ -5,8 +5,8 @@ ghost use Prim.Native.Nat.{_+_, _≤_, _<_};
 ghost use lib.ListN.{length};
 ghost use Rattle.columns.specs.Lists.{collect};
 ghost use Rattle.columns.specs.Loans.{entry, exit};
-ghost use Rattle.edge_append.specs.Append.{Room, Appended};
-ghost use Rattle.edge_append.specs.Held.{staticAt, staticFrom, StaticsIn, staticsAt, loaderAt};
+ghost use Rattle.edge_append.specs.Append.{EdgeRoom, Appended};
+ghost use Rattle.edge_append.specs.Held.{staticRefAt, staticFrom, StaticsIn, staticsAt, loaderAt};
 
 // The type of a static that is an object.
 const OBJECT: u8 = 2;
@@ -26,8 +26,8 @@ fn append_static(
     weak: &mut [u32],
 ) -> Pass
     requires { ⌜ (place < length (now «static_names»)) × (place < length (now «static_types»)) × (place < length (now «static_values»)) ⌝ }
-    requires { ⌜ Room (now ids) (staticAt (now «static_names») (now «static_types») (now «static_values») place) s (length (now targets)) (length (now labels)) (length (now weak)) ⌝ }
-    ensures { λ q. ⌜ Appended (entry ids) (staticAt (entry «static_names») (entry «static_types») (entry «static_values») place) s q (entry targets)
+    requires { ⌜ EdgeRoom (now ids) (staticRefAt (now «static_names») (now «static_types») (now «static_values») place) s (length (now targets)) (length (now labels)) (length (now weak)) ⌝ }
+    ensures { λ q. ⌜ Appended (entry ids) (staticRefAt (entry «static_names») (entry «static_types») (entry «static_values») place) s q (entry targets)
         (entry labels) (entry weak) (exit targets) (exit labels) (exit weak) ⌝ }
 {
     if static_types[place] != OBJECT {
@@ -63,7 +63,7 @@ fn statics(
     weak: &mut [u32],
 ) -> Pass
     requires { ⌜ (first + count ≤ length (now «static_names»)) × (first + count ≤ length (now «static_types»)) × (first + count ≤ length (now «static_values»)) ⌝ }
-    requires { ⌜ Room (now ids) (collect (staticFrom (now «static_names») (now «static_types») (now «static_values») first) count) from (length (now targets))
+    requires { ⌜ EdgeRoom (now ids) (collect (staticFrom (now «static_names») (now «static_types») (now «static_values») first) count) from (length (now targets))
         (length (now labels)) (length (now weak)) ⌝ }
     ensures { λ q. ⌜ Appended (entry ids) (collect (staticFrom (entry «static_names») (entry «static_types») (entry «static_values») first) count) from q
         (entry targets) (entry labels) (entry weak) (exit targets) (exit labels) (exit weak) ⌝ }
@@ -106,7 +106,7 @@ pub fn found_statics(
     weak: &mut [u32],
 ) -> Pass
     requires { ⌜ StaticsIn (now «static_starts») (now «static_ends») (length (now «static_names»)) (length (now «static_types»)) (length (now «static_values»)) mark ⌝ }
-    requires { ⌜ Room (now ids) (staticsAt (now «static_starts») (now «static_ends») (now «static_names») (now «static_types») (now «static_values») mark) s
+    requires { ⌜ EdgeRoom (now ids) (staticsAt (now «static_starts») (now «static_ends») (now «static_names») (now «static_types») (now «static_values») mark) s
         (length (now targets)) (length (now labels)) (length (now weak)) ⌝ }
     ensures { λ q. ⌜ Appended (entry ids) (staticsAt (entry «static_starts») (entry «static_ends») (entry «static_names») (entry «static_types»)
         (entry «static_values») mark) s q (entry targets) (entry labels) (entry weak) (exit targets) (exit labels) (exit weak) ⌝ }
@@ -145,7 +145,7 @@ pub fn found_loader(
     weak: &mut [u32],
 ) -> Pass
     requires { ⌜ (0 < mark → mark ≤ length (now loaders)) ⌝ }
-    requires { ⌜ Room (now ids) (loaderAt (now loaders) mark) s (length (now targets)) (length (now labels)) (length (now weak)) ⌝ }
+    requires { ⌜ EdgeRoom (now ids) (loaderAt (now loaders) mark) s (length (now targets)) (length (now labels)) (length (now weak)) ⌝ }
     ensures { λ q. ⌜ Appended (entry ids) (loaderAt (entry loaders) mark) s q (entry targets) (entry labels) (entry weak) (exit targets) (exit labels) (exit weak) ⌝ }
 {
     if mark == 0 {

@@ -10,7 +10,7 @@ ghost use Rattle.columns.specs.Ranks.{Rises};
 ghost use Rattle.columns.specs.Loans.{entry, exit};
 ghost use Rattle.index.specs.Copied.{idsOf};
 ghost use Rattle.rules.specs.Input.{copiedId};
-ghost use Rattle.edge_append.specs.Append.{Room, Appended};
+ghost use Rattle.edge_append.specs.Append.{EdgeRoom, Appended};
 ghost use Rattle.edge_append.specs.Held.{copiedSlot, copiedElement, SlotsIn, copiedSlots, copiedElements};
 
 // The id at a place; 0 where nothing reads back, which no accepted input meets.
@@ -53,7 +53,7 @@ fn slots(
 ) -> Pass
     requires { ⌜ Rises (now «escape_places») ⌝ }
     requires { ⌜ (first + count ≤ length (now «slot_labels»)) × (first + count ≤ length (now «slot_weak»)) × (start + count < 2 ^ 64) ⌝ }
-    requires { ⌜ Room (now ids) (tab (copiedSlot (idsOf (now codes) (now «escape_places») (now «escape_ids») base) start (now «slot_labels») (now «slot_weak»)
+    requires { ⌜ EdgeRoom (now ids) (tab (copiedSlot (idsOf (now codes) (now «escape_places») (now «escape_ids») base) start (now «slot_labels») (now «slot_weak»)
         keeps first) count) from (length (now targets)) (length (now labels)) (length (now weak)) ⌝ }
     ensures { λ q. ⌜ Appended (entry ids) (tab (copiedSlot (idsOf (entry codes) (entry «escape_places») (entry «escape_ids») base) start (entry «slot_labels»)
         (entry «slot_weak») keeps first) count) from q (entry targets) (entry labels) (entry weak) (exit targets) (exit labels) (exit weak) ⌝ }
@@ -102,7 +102,7 @@ fn elements(
 ) -> Pass
     requires { ⌜ Rises (now «escape_places») ⌝ }
     requires { ⌜ (count ≤ 2 ^ 31) × (start + count < 2 ^ 64) ⌝ }
-    requires { ⌜ Room (now ids) (tab (copiedElement (idsOf (now codes) (now «escape_places») (now «escape_ids») base) start) count) from (length (now targets))
+    requires { ⌜ EdgeRoom (now ids) (tab (copiedElement (idsOf (now codes) (now «escape_places») (now «escape_ids») base) start) count) from (length (now targets))
         (length (now labels)) (length (now weak)) ⌝ }
     ensures { λ q. ⌜ Appended (entry ids) (tab (copiedElement (idsOf (entry codes) (entry «escape_places») (entry «escape_ids») base) start) count) from q
         (entry targets) (entry labels) (entry weak) (exit targets) (exit labels) (exit weak) ⌝ }
@@ -145,7 +145,7 @@ pub fn object_slots(
 ) -> Pass
     requires { ⌜ Rises (now «escape_places») ⌝ }
     requires { ⌜ SlotsIn (now «class_kinds») (now «slot_starts») (now «slot_ends») (length (now «slot_labels»)) (length (now «slot_weak»)) kind class start ⌝ }
-    requires { ⌜ Room (now ids) (copiedSlots (idsOf (now codes) (now «escape_places») (now «escape_ids») base) start (now «class_kinds») (now «slot_starts»)
+    requires { ⌜ EdgeRoom (now ids) (copiedSlots (idsOf (now codes) (now «escape_places») (now «escape_ids») base) start (now «class_kinds») (now «slot_starts»)
         (now «slot_ends») (now «slot_labels») (now «slot_weak») policy kind class) s (length (now targets)) (length (now labels)) (length (now weak)) ⌝ }
     ensures { λ q. ⌜ Appended (entry ids) (copiedSlots (idsOf (entry codes) (entry «escape_places») (entry «escape_ids») base) start (entry «class_kinds»)
         (entry «slot_starts») (entry «slot_ends») (entry «slot_labels») (entry «slot_weak») policy kind class) s q (entry targets) (entry labels) (entry weak)
@@ -199,7 +199,7 @@ pub fn object_elements(
 ) -> Pass
     requires { ⌜ Rises (now «escape_places») ⌝ }
     requires { ⌜ (kind ≡ 1 → (count ≤ 2 ^ 31) × (start + count < 2 ^ 64)) ⌝ }
-    requires { ⌜ Room (now ids) (copiedElements (idsOf (now codes) (now «escape_places») (now «escape_ids») base) start kind count) s (length (now targets))
+    requires { ⌜ EdgeRoom (now ids) (copiedElements (idsOf (now codes) (now «escape_places») (now «escape_ids») base) start kind count) s (length (now targets))
         (length (now labels)) (length (now weak)) ⌝ }
     ensures { λ q. ⌜ Appended (entry ids) (copiedElements (idsOf (entry codes) (entry «escape_places») (entry «escape_ids») base) start kind count) s q
         (entry targets) (entry labels) (entry weak) (exit targets) (exit labels) (exit weak) ⌝ }

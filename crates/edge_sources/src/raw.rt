@@ -7,7 +7,7 @@ ghost use lib.ListN.{length};
 ghost use Rattle.columns.specs.Lists.{part, tab};
 ghost use Rattle.columns.specs.Loans.{entry, exit};
 ghost use Rattle.rules.specs.Input.{bigEndian};
-ghost use Rattle.edge_append.specs.Append.{Room, Appended};
+ghost use Rattle.edge_append.specs.Append.{EdgeRoom, Appended};
 ghost use Rattle.edge_append.specs.Held.{SlotsIn};
 ghost use Rattle.edge_append.specs.Raw.{BodyIn, rawSlot, slotsRead, rawElement, rawSlots, rawElements};
 
@@ -85,7 +85,7 @@ fn slots(
 ) -> Pass
     requires { ⌜ (first + count ≤ length (now «slot_offsets»)) × (first + count ≤ length (now «slot_labels»)) × (first + count ≤ length (now «slot_weak»)) ⌝ }
     requires { ⌜ BodyIn (length (now bytes)) size start body ⌝ }
-    requires { ⌜ Room (now ids) (tab (rawSlot (now bytes) size start (now «slot_offsets») (now «slot_labels») (now «slot_weak») keeps first)
+    requires { ⌜ EdgeRoom (now ids) (tab (rawSlot (now bytes) size start (now «slot_offsets») (now «slot_labels») (now «slot_weak») keeps first)
         (slotsRead (now «slot_offsets») size body first count)) from (length (now targets)) (length (now labels)) (length (now weak)) ⌝ }
     ensures { λ q. ⌜ Appended (entry ids) (tab (rawSlot (entry bytes) size start (entry «slot_offsets») (entry «slot_labels») (entry «slot_weak») keeps first)
         (slotsRead (entry «slot_offsets») size body first count)) from q (entry targets) (entry labels) (entry weak) (exit targets) (exit labels) (exit weak) ⌝ }
@@ -132,7 +132,7 @@ fn elements(
     weak: &mut [u32],
 ) -> Pass
     requires { ⌜ (count ≤ 2 ^ 31) × (size ≤ 8) × (start + count * size ≤ length (now bytes)) ⌝ }
-    requires { ⌜ Room (now ids) (tab (rawElement (now bytes) size start) count) from (length (now targets)) (length (now labels)) (length (now weak)) ⌝ }
+    requires { ⌜ EdgeRoom (now ids) (tab (rawElement (now bytes) size start) count) from (length (now targets)) (length (now labels)) (length (now weak)) ⌝ }
     ensures { λ q. ⌜ Appended (entry ids) (tab (rawElement (entry bytes) size start) count) from q (entry targets) (entry labels) (entry weak) (exit targets) (exit labels) (exit weak) ⌝ }
 {
     let mut s = from;
@@ -173,7 +173,7 @@ pub fn object_slots(
     requires { ⌜ SlotsIn (now «class_kinds») (now «slot_starts») (now «slot_ends») (length (now «slot_labels»)) (length (now «slot_weak»)) kind class 0 ⌝ }
     requires { ⌜ length (now «slot_offsets») ≡ length (now «slot_labels») ⌝ }
     requires { ⌜ (kind ≡ 0 → BodyIn (length (now bytes)) size start body) ⌝ }
-    requires { ⌜ Room (now ids) (rawSlots (now bytes) size start body (now «class_kinds») (now «slot_starts») (now «slot_ends») (now «slot_offsets»)
+    requires { ⌜ EdgeRoom (now ids) (rawSlots (now bytes) size start body (now «class_kinds») (now «slot_starts») (now «slot_ends») (now «slot_offsets»)
         (now «slot_labels») (now «slot_weak») policy kind class) s (length (now targets)) (length (now labels)) (length (now weak)) ⌝ }
     ensures { λ q. ⌜ Appended (entry ids) (rawSlots (entry bytes) size start body (entry «class_kinds») (entry «slot_starts») (entry «slot_ends»)
         (entry «slot_offsets») (entry «slot_labels») (entry «slot_weak») policy kind class) s q (entry targets) (entry labels) (entry weak) (exit targets)
@@ -222,7 +222,7 @@ pub fn object_elements(
     weak: &mut [u32],
 ) -> Pass
     requires { ⌜ (kind ≡ 1 → (count ≤ 2 ^ 31) × (size ≤ 8) × (start + count * size ≤ length (now bytes))) ⌝ }
-    requires { ⌜ Room (now ids) (rawElements (now bytes) size start kind count) s (length (now targets)) (length (now labels)) (length (now weak)) ⌝ }
+    requires { ⌜ EdgeRoom (now ids) (rawElements (now bytes) size start kind count) s (length (now targets)) (length (now labels)) (length (now weak)) ⌝ }
     ensures { λ q. ⌜ Appended (entry ids) (rawElements (entry bytes) size start kind count) s q (entry targets) (entry labels) (entry weak) (exit targets) (exit labels) (exit weak) ⌝ }
 {
     if kind != rules::Kind::OBJECT_ARRAY {

@@ -20,10 +20,10 @@ use Rattle.rules.proofs.First.{first-append}
 use Rattle.rules.proofs.Handed.{handed-passed, handed-refuse}
 use Rattle.check_parts.specs.Checks.{handed}
 use Rattle.code_columns.specs.Stages.{handOn, Where, Ready}
-use Rattle.code_columns.specs.Finished.{namingOf, Finished, Coding}
+use Rattle.code_columns.specs.Finished.{namingOf, Finished, PartsCoding}
 use Rattle.code_stages.proofs.Laws.{on-true, on-false}
 use Rattle.code_columns.proofs.Readying.{ready-parts}
-use Rattle.from_parts.specs.Parts.{partsOf, leftAs, countedSays}
+use Rattle.from_parts.specs.Parts.{partsOf, leftAs, plainSays}
 
 -- the checks do not read the dangling count
 pub handed-same : (s : Schema) (offsets targets labels weakFrom weakTo roots : List ℕ) (dangling : ℕ)
@@ -36,19 +36,19 @@ refused-first : (fs : List (List ℕ)) (done other : List ℕ) → accepts done 
 refused-first [] done other y n = absurd (true≢false (sym y ∙ n))
 refused-first (f ∷ fs) done other y n = refl
 
-pub refused-counted : (r : Refusal) (weak roots dangling : ℕ) → countedSays (refusalSays r) weak roots dangling ≡ refusalSays r
+pub refused-counted : (r : Refusal) (weak roots dangling : ℕ) → plainSays (refusalSays r) weak roots dangling ≡ refusalSays r
 refused-counted r weak roots dangling =
     ap (λ (b : Bool). cond b (0 ∷ refusalSays r ! 1 ∷ weak ∷ roots ∷ 0 ∷ 0 ∷ 0 ∷ dangling ∷ []) (refusalSays r)) (refusal-refuses r)
 
 -- where the checks accept, they have found no fault
-counted-accepts : (checked : List ℕ) (weak roots dangling : ℕ) → accepts (countedSays checked weak roots dangling) ≡ true → accepts checked ≡ true
+counted-accepts : (checked : List ℕ) (weak roots dangling : ℕ) → accepts (plainSays checked weak roots dangling) ≡ true → accepts checked ≡ true
 counted-accepts checked weak roots dangling y = go (accepts checked) refl y
   where
     go : (b : Bool) → accepts checked ≡ b → accepts (cond b (0 ∷ checked ! 1 ∷ weak ∷ roots ∷ 0 ∷ 0 ∷ 0 ∷ dangling ∷ []) checked) ≡ true → accepts checked ≡ true
     go true e h = e
     go false e h = h
 
-module _ (s : Schema) (p : Parts) {checked v : List ℕ} (e : checked ≡ handedSays s p) (f : v ≡ countedSays checked (length (p .weakFrom)) (length (p .roots)) (p .dangling)) where
+module _ (s : Schema) (p : Parts) {checked v : List ℕ} (e : checked ≡ handedSays s p) (f : v ≡ plainSays checked (length (p .weakFrom)) (length (p .roots)) (p .dangling)) where
   checked-accepts : accepts v ≡ true → accepts checked ≡ true
   checked-accepts y = counted-accepts checked (length (p .weakFrom)) (length (p .roots)) (p .dangling) (ap accepts (sym f) ∙ y)
 
@@ -67,10 +67,10 @@ module _ (s : Schema) (p : Parts) {checked v : List ℕ} (e : checked ≡ handed
   counted-is : accepts checked ≡ true → v ≡ plainCounts p
   unfolding accepts
   counted-is y =
-      f ∙ ap (λ (c : List ℕ). countedSays c (length (p .weakFrom)) (length (p .roots)) (p .dangling)) (checked-is y)
+      f ∙ ap (λ (c : List ℕ). plainSays c (length (p .weakFrom)) (length (p .roots)) (p .dangling)) (checked-is y)
       ∙ ap (λ (n : ℕ). 0 ∷ n ∷ length (p .weakFrom) ∷ length (p .roots) ∷ 0 ∷ 0 ∷ 0 ∷ p .dangling ∷ []) (sym (handed-passed s p (no-faults y) .parts .counted))
 
-  module _ (l : Lent) {says : List ℕ} {left : CodedLeft} (g : Coding (namingOf s) (classCount s) (s .names) (p .offsets) (p .labels) v l says left) where
+  module _ (l : Lent) {says : List ℕ} {left : CodedLeft} (g : PartsCoding (namingOf s) (classCount s) (s .names) (p .offsets) (p .labels) v l says left) where
     finished : Finished s p v l says left
     finished = g s p (record {
       named = refl;

@@ -7,11 +7,11 @@ ghost use Rattle.rules.specs.Types.{checkedSays, builtSays};
 ghost use Rattle.rules.specs.Built.{partsLeft};
 ghost use Rattle.columns.specs.Loans.{entry, exit};
 ghost use Rattle.rules.specs.Tables.{classTable, slotTable, staticTable, schemaOf, codingRoom, codingLeft};
-ghost use Rattle.from_parts.specs.Parts.{plainColumns, leftAs, countedSays};
+ghost use Rattle.from_parts.specs.Parts.{plainColumns, leftAs, plainSays};
 
 // The checks' answer as that of a build with nothing coded yet.
 fn counted(c: Checked, weak: usize, roots: usize, dangling: u64) -> Built
-    ensures { λ r. ⌜ builtSays r ≡ countedSays (checkedSays c) weak roots dangling ⌝ }
+    ensures { λ r. ⌜ builtSays r ≡ plainSays (checkedSays c) weak roots dangling ⌝ }
 {
     match c {
         Checked::Accepted(edges) => Built::Done(Counts {

@@ -19,7 +19,7 @@ use Rattle.index.specs.declared.CodedIds.{CodedIds}
 use Rattle.index.specs.declared.CodedIds.the-variants.{Done, Room}
 use Rattle.index.specs.declared.CopiedId.{CopiedId}
 use Rattle.index.specs.declared.CopiedId.the-variants.{Id, Index, Copied}
-use Rattle.index.specs.Copied.{codedSays, idSays, ESCAPED, inline, codeOf, codesTo, isEscape, escapesTo, escapedTo, escapeRows, idsOf, copiedOf, codingSays, Accepted, Coding, whole, escapeBack, readBack}
+use Rattle.index.specs.Copied.{codedSays, idSays, ESCAPED, inline, codeOf, codesTo, isEscape, escapesTo, escapeIdsTo, escapeRows, idsOf, copiedOf, codingSays, IdsAccepted, IdsCoding, whole, escapeBack, readBack}
 use Rattle.index.proofs.Verdict.{coding-accepted, accepted-says}
 use Rattle.index.proofs.Zeros.{three-zeros}
 
@@ -75,8 +75,8 @@ module _ (base : ℕ) (ids : List ℕ) (i : ℕ) (l : i < length ids) (fits : id
       let p = places-row (isEscape base ids) i (length ids) (eq-eqb _ _ e) l in
       let k = length (escapesTo base ids i) in
       let row : bisect (escapesTo base ids (length ids)) i ≡ k = ap (bisect (escapesTo base ids (length ids))) (sym (p .1)) ∙ bisect-found (escapesTo base ids (length ids)) k (places-rise (isEscape base ids) (length ids)) (p .0) in
-      let id : escapedTo base ids (length ids) ! k ≡ ids ! i = map-at (λ i. ids ! i) 0 (escapesTo base ids (length ids)) k (p .0) ∙ ap (λ (n : ℕ). ids ! n) (p .1) in
-      let rows : k < length (escapedTo base ids (length ids)) = rw (length-map (escapesTo base ids (length ids)) (λ i. ids ! i)) (p .0) in
+      let id : escapeIdsTo base ids (length ids) ! k ≡ ids ! i = map-at (λ i. ids ! i) 0 (escapesTo base ids (length ids)) k (p .0) ∙ ap (λ (n : ℕ). ids ! n) (p .1) in
+      let rows : k < length (escapeIdsTo base ids (length ids)) = rw (length-map (escapesTo base ids (length ids)) (λ i. ids ! i)) (p .0) in
       simp (tab-length, lt-ltb _ _ l, code-at, e, row, lt-ltb _ _ (p .0), eq-eqb _ _ (p .1), lt-ltb _ _ rows, id) (whole-id i (ids ! i) (code-escaped base (ids ! i) e) fits)
 
   -- any other code
@@ -85,7 +85,7 @@ module _ (base : ℕ) (ids : List ℕ) (i : ℕ) (l : i < length ids) (fits : id
   plain-back stays = rw (tab-length, lt-ltb _ _ l, code-at) (go (eqb (codeOf base (ids ! i)) 0) refl)
     where
       go : (z : Bool) → eqb (codeOf base (ids ! i)) 0 ≡ z
-          → cond (eqb (codeOf base (ids ! i)) 0) (0 ∷ 0 ∷ []) (cond (eqb (codeOf base (ids ! i)) ESCAPED) (escapeBack (escapesTo base ids (length ids)) (escapedTo base ids (length ids)) i (bisect (escapesTo base ids (length ids)) i)) (whole i (base + 8 * (codeOf base (ids ! i) - 1)))) ≡ 0 ∷ ids ! i ∷ []
+          → cond (eqb (codeOf base (ids ! i)) 0) (0 ∷ 0 ∷ []) (cond (eqb (codeOf base (ids ! i)) ESCAPED) (escapeBack (escapesTo base ids (length ids)) (escapeIdsTo base ids (length ids)) i (bisect (escapesTo base ids (length ids)) i)) (whole i (base + 8 * (codeOf base (ids ! i) - 1)))) ≡ 0 ∷ ids ! i ∷ []
       go true t = rw (t, code-none base (ids ! i) (eqb-true _ _ t))
       go false t =
           let b = inline-back base (ids ! i) (eqb-false _ _ t) stays in
@@ -100,7 +100,7 @@ module _ (base : ℕ) (ids : List ℕ) (i : ℕ) (l : i < length ids) (fits : id
       go false t = plain-back (eqb-false _ _ t)
 
 -- What a caller has who has matched the answer: the used parts are parts, and together the coded columns.
-module _ {base : ℕ} {ids : List ℕ} {nc np ni : ℕ} {r : CodedIds} {c p v : List ℕ} (w : Coding base ids nc np ni r c p v) {n k : ℕ} (e : r ≡ Done n k) where
+module _ {base : ℕ} {ids : List ℕ} {nc np ni : ℕ} {r : CodedIds} {c p v : List ℕ} (w : IdsCoding base ids nc np ni r c p v) {n k : ℕ} (e : r ≡ Done n k) where
   done-accepts : accepts (codedSays r) ≡ true
   unfolding accepts
   done-accepts = rw e
@@ -137,11 +137,11 @@ module _ {base : ℕ} {ids : List ℕ} {nc np ni : ℕ} {r : CodedIds} {c p v : 
   round-trip i h fits = rw done-used (reads-back base ids i h fits)
 
 -- ONE OUTCOME. Document 01's numbers and values tell the answers apart, and all else that a contract says is an equation.
-codedOf : List ℕ → CodedIds
-codedOf says = cond (eqb (says ! 0) 0) (Done (says ! 1) (says ! 2)) (Room (says ! 1))
+answerOf : List ℕ → CodedIds
+answerOf says = cond (eqb (says ! 0) 0) (Done (says ! 1) (says ! 2)) (Room (says ! 1))
 
-codedOf-says : (r : CodedIds) → codedOf (codedSays r) ≡ r
-unfolding codedOf
+codedOf-says : (r : CodedIds) → answerOf (codedSays r) ≡ r
+unfolding answerOf
 codedOf-says (Done c e) = refl
 codedOf-says (Room k) = refl
 
@@ -154,10 +154,10 @@ idOf-says (Id v) = refl
 idOf-says (Index i) = refl
 idOf-says (Copied i) = refl
 
-pub one-coding : {base : ℕ} {ids : List ℕ} {nc np ni : ℕ} {r r′ : CodedIds} {c c′ p p′ v v′ : List ℕ} → Coding base ids nc np ni r c p v → Coding base ids nc np ni r′ c′ p′ v′
+pub one-coding : {base : ℕ} {ids : List ℕ} {nc np ni : ℕ} {r r′ : CodedIds} {c c′ p p′ v v′ : List ℕ} → IdsCoding base ids nc np ni r c p v → IdsCoding base ids nc np ni r′ c′ p′ v′
     → (r ≡ r′) × (c ≡ c′) × (p ≡ p′) × (v ≡ v′)
 one-coding {r = r} {r′ = r′} w w′ =
-    let e : r ≡ r′ = sym (codedOf-says r) ∙ ap codedOf (w .answer ∙ sym (w′ .answer)) ∙ codedOf-says r′ in
+    let e : r ≡ r′ = sym (codedOf-says r) ∙ ap answerOf (w .answer ∙ sym (w′ .answer)) ∙ codedOf-says r′ in
     (e, rw e at (w .codes) ∙ sym (w′ .codes), rw e at (w .escape-places) ∙ sym (w′ .escape-places), rw e at (w .escape-ids) ∙ sym (w′ .escape-ids))
 
 pub one-id : (says : List ℕ) (r r′ : CopiedId) → idSays r ≡ says → idSays r′ ≡ says → r ≡ r′

@@ -47,8 +47,8 @@ isEscape base ids i = eqb (codeOf base (ids ! i)) ESCAPED
 abbrev pub escapesTo : ℕ → List ℕ → ℕ → List ℕ
 escapesTo base ids n = places (isEscape base ids) n
 
-abbrev pub escapedTo : ℕ → List ℕ → ℕ → List ℕ
-escapedTo base ids n = map (λ i. ids ! i) (escapesTo base ids n)
+abbrev pub escapeIdsTo : ℕ → List ℕ → ℕ → List ℕ
+escapeIdsTo base ids n = map (λ i. ids ! i) (escapesTo base ids n)
 
 -- The copied columns, and the base that they are over.
 pub record Ids : Type 0 where
@@ -61,7 +61,7 @@ abbrev pub idsOf : List ℕ → List ℕ → List ℕ → ℕ → Ids
 idsOf c p v base = record { codes = c; places = p; ids = v; base = base }
 
 unfoldable pub copiedOf : ℕ → List ℕ → Ids
-copiedOf base ids = idsOf (codesTo base ids (length ids)) (escapesTo base ids (length ids)) (escapedTo base ids (length ids)) base
+copiedOf base ids = idsOf (codesTo base ids (length ids)) (escapesTo base ids (length ids)) (escapeIdsTo base ids (length ids)) base
 
 -- how many escapes the ids need
 abbrev pub escapeRows : ℕ → List ℕ → ℕ
@@ -76,29 +76,29 @@ codingSays base ids nc np ni =
     (0 ∷ length ids ∷ escapeRows base ids ∷ [])))
 
 -- The same as facts: nothing is refused.
-pub record Accepted (base : ℕ) (ids : List ℕ) (nc np ni : ℕ) : Type 0 where
+pub record IdsAccepted (base : ℕ) (ids : List ℕ) (nc np ni : ℕ) : Type 0 where
   pub room-codes : length ids ≤ nc
   pub room-places : escapeRows base ids ≤ np
   pub room-ids : escapeRows base ids ≤ ni
 
 -- The three columns written over their fronts; as an acceptance leaves them, with zeros behind; and as a refusal leaves them.
-pub record Laid (base : ℕ) (ids c₀ p₀ v₀ c p v : List ℕ) : Type 0 where
+pub record IdsLaid (base : ℕ) (ids c₀ p₀ v₀ c p v : List ℕ) : Type 0 where
   pub codes : c ≡ over (codesTo base ids (length ids)) c₀
   pub places : p ≡ over (escapesTo base ids (length ids)) p₀
-  pub escaped : v ≡ over (escapedTo base ids (length ids)) v₀
+  pub escaped : v ≡ over (escapeIdsTo base ids (length ids)) v₀
 
-pub record Filled (base : ℕ) (ids : List ℕ) (nc np ni : ℕ) (c p v : List ℕ) : Type 0 where
+pub record IdsFilled (base : ℕ) (ids : List ℕ) (nc np ni : ℕ) (c p v : List ℕ) : Type 0 where
   pub codes : c ≡ padded (copiedOf base ids .codes) nc
   pub places : p ≡ padded (copiedOf base ids .places) np
   pub escaped : v ≡ padded (copiedOf base ids .ids) ni
 
-pub record Emptied (nc np ni : ℕ) (c p v : List ℕ) : Type 0 where
+pub record IdsEmptied (nc np ni : ℕ) (c p v : List ℕ) : Type 0 where
   pub codes : c ≡ zeros nc
   pub places : p ≡ zeros np
   pub escaped : v ≡ zeros ni
 
 -- What `code_ids` answers, r, and leaves in the three columns that it is lent: all zero after a refusal.
-pub record Coding (base : ℕ) (ids : List ℕ) (nc np ni : ℕ) (r : CodedIds) (c p v : List ℕ) : Type 0 where
+pub record IdsCoding (base : ℕ) (ids : List ℕ) (nc np ni : ℕ) (r : CodedIds) (c p v : List ℕ) : Type 0 where
   pub answer : codedSays r ≡ codingSays base ids nc np ni
   pub codes : c ≡ leaves (codedSays r) (copiedOf base ids .codes) nc
   pub escape-places : p ≡ leaves (codedSays r) (copiedOf base ids .places) np

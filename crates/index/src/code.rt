@@ -6,7 +6,7 @@ ghost use lib.ListN.{length};
 ghost use Rattle.columns.specs.Lists.{_!_};
 ghost use Rattle.columns.specs.Columns.{accepts};
 ghost use Rattle.columns.specs.Loans.{entry, exit};
-ghost use Rattle.index.specs.Copied.{codeOf, codedSays, codingSays, escapeRows, Accepted, Laid, Filled, Emptied};
+ghost use Rattle.index.specs.Copied.{codeOf, codedSays, codingSays, escapeRows, IdsAccepted, IdsLaid, IdsFilled, IdsEmptied};
 
 // The code of an id that is kept whole in the escapes.
 pub const ESCAPED: u32 = 4294967295;
@@ -99,8 +99,8 @@ fn write(
     escape_places: &mut [u64],
     escape_ids: &mut [u64],
 )
-    requires { ⌜ Accepted base (now ids) (length (now codes)) (length (now «escape_places»)) (length (now «escape_ids»)) ⌝ }
-    ensures { λ _. ⌜ Laid base (entry ids) (entry codes) (entry «escape_places») (entry «escape_ids») (exit codes) (exit «escape_places») (exit «escape_ids») ⌝ }
+    requires { ⌜ IdsAccepted base (now ids) (length (now codes)) (length (now «escape_places»)) (length (now «escape_ids»)) ⌝ }
+    ensures { λ _. ⌜ IdsLaid base (entry ids) (entry codes) (entry «escape_places») (entry «escape_ids») (exit codes) (exit «escape_places») (exit «escape_ids») ⌝ }
 {
     let mut k = 0;
     let mut i = 0;
@@ -129,8 +129,8 @@ pub(crate) fn write_all(
     escape_ids: &mut [u64],
 )
     requires { ⌜ rows ≡ escapeRows base (now ids) ⌝ }
-    requires { ⌜ Accepted base (now ids) (length (now codes)) (length (now «escape_places»)) (length (now «escape_ids»)) ⌝ }
-    ensures { λ _. ⌜ Filled base (entry ids) (length (entry codes)) (length (entry «escape_places»)) (length (entry «escape_ids»))
+    requires { ⌜ IdsAccepted base (now ids) (length (now codes)) (length (now «escape_places»)) (length (now «escape_ids»)) ⌝ }
+    ensures { λ _. ⌜ IdsFilled base (entry ids) (length (entry codes)) (length (entry «escape_places»)) (length (entry «escape_ids»))
         (exit codes) (exit «escape_places») (exit «escape_ids») ⌝ }
 {
     write(ids, base, codes, escape_places, escape_ids);
@@ -140,7 +140,7 @@ pub(crate) fn write_all(
 }
 
 pub(crate) fn zero_all(codes: &mut [u32], escape_places: &mut [u64], escape_ids: &mut [u64])
-    ensures { λ _. ⌜ Emptied (length (entry codes)) (length (entry «escape_places»)) (length (entry «escape_ids»)) (exit codes) (exit «escape_places») (exit «escape_ids») ⌝ }
+    ensures { λ _. ⌜ IdsEmptied (length (entry codes)) (length (entry «escape_places»)) (length (entry «escape_ids»)) (exit codes) (exit «escape_places») (exit «escape_ids») ⌝ }
 {
     columns::zero_u32(codes, 0);
     columns::zero_u64(escape_places, 0);

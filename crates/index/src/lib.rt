@@ -6,7 +6,7 @@ mod read;
 ghost use mathlib.Core.Path.{_≡_};
 ghost use lib.ListN.{length};
 ghost use Rattle.columns.specs.Loans.{entry, exit};
-ghost use Rattle.index.specs.Copied.{Coding, idSays, idsOf, readBack};
+ghost use Rattle.index.specs.Copied.{IdsCoding, idSays, idsOf, readBack};
 
 // What coding answers: the lengths used of codes and of escapes; or the refusal.
 pub enum CodedIds {
@@ -29,7 +29,7 @@ pub fn code_ids(
     escape_places: &mut [u64],
     escape_ids: &mut [u64],
 ) -> CodedIds
-    ensures { λ r. ⌜ Coding base (entry ids) (length (entry codes)) (length (entry «escape_places»)) (length (entry «escape_ids»)) r (exit codes)
+    ensures { λ r. ⌜ IdsCoding base (entry ids) (length (entry codes)) (length (entry «escape_places»)) (length (entry «escape_ids»)) r (exit codes)
         (exit «escape_places») (exit «escape_ids») ⌝ }
 {
     let r = code::judge(

@@ -15,33 +15,33 @@ use Rattle.columns.proofs.Lists.{tab-more, places-hit, places-miss}
 use Rattle.columns.proofs.Parts.{places-ext}
 use Rattle.rules.specs.Types.{LOADER}
 use Rattle.rules.specs.Labels.{occurring}
-use Rattle.labels.specs.Coding.{slotOf}
-use Rattle.labels.specs.Fields.{labelAt, mark, marks, slotsNamed, isObject, staticsNamed, Naming, namedBy, isMarked, marked}
+use Rattle.labels.specs.Coding.{tablePlace}
+use Rattle.labels.specs.Fields.{tableLabel, markLabel, markLabels, slotsNamed, isObject, staticsNamed, Naming, namedBy, isMarked, markedLabels}
 use Rattle.labels.proofs.Table.{slot-label, label-slot, label-places}
 
-marks-length : (names : ℕ) (t ls : List ℕ) → length (marks names t ls) ≡ length t
+marks-length : (names : ℕ) (t ls : List ℕ) → length (markLabels names t ls) ≡ length t
 marks-length names t [] = refl
-marks-length names t (l ∷ ls) = marks-length names (mark names t l) ls ∙ length-set t (slotOf names l) 1
+marks-length names t (l ∷ ls) = marks-length names (markLabel names t l) ls ∙ length-set t (tablePlace names l) 1
 
-marks-append : (names : ℕ) (t xs ys : List ℕ) → marks names t (xs ++ ys) ≡ marks names (marks names t xs) ys
+marks-append : (names : ℕ) (t xs ys : List ℕ) → markLabels names t (xs ++ ys) ≡ markLabels names (markLabels names t xs) ys
 marks-append names t [] ys = refl
-marks-append names t (l ∷ xs) ys = marks-append names (mark names t l) xs ys
+marks-append names t (l ∷ xs) ys = marks-append names (markLabel names t l) xs ys
 
 -- t₀ has become t, where the names of a list are marked; and some names more
 pub record Marking (names : ℕ) (t₀ ls t : List ℕ) : Type 0 where
-  pub holds : t ≡ marks names t₀ ls
+  pub holds : t ≡ markLabels names t₀ ls
   pub same : length t ≡ length t₀
 
 pub marking-none : (names : ℕ) (t : List ℕ) → Marking names t [] t
 marking-none names t = record { holds = refl; same = refl }
 
-pub marking-more : {names : ℕ} {t₀ xs t : List ℕ} (ys : List ℕ) {zs u : List ℕ} → Marking names t₀ xs t → zs ≡ xs ++ ys → u ≡ marks names t ys → Marking names t₀ zs u
+pub marking-more : {names : ℕ} {t₀ xs t : List ℕ} (ys : List ℕ) {zs u : List ℕ} → Marking names t₀ xs t → zs ≡ xs ++ ys → u ≡ markLabels names t ys → Marking names t₀ zs u
 marking-more {names} {t₀} {xs} {t} ys {zs} {u} w e m =
-    let is : u ≡ marks names t₀ zs = m ∙ ap (λ (z : List ℕ). marks names z ys) (w .holds) ∙ sym (marks-append names t₀ xs ys) ∙ ap (marks names t₀) (sym e) in
+    let is : u ≡ markLabels names t₀ zs = m ∙ ap (λ (z : List ℕ). markLabels names z ys) (w .holds) ∙ sym (marks-append names t₀ xs ys) ∙ ap (markLabels names t₀) (sym e) in
     record { holds = is; same = ap length is ∙ marks-length names t₀ zs }
 
-pub marking-end : (F : ℕ → List ℕ) {names : ℕ} {t₀ t : List ℕ} {i : ℕ} (n : ℕ) → Marking names t₀ (F i) t → i ≡ n → t ≡ marks names t₀ (F n)
-marking-end F {names} {t₀} n w e = w .holds ∙ ap (λ (k : ℕ). marks names t₀ (F k)) e
+pub marking-end : (F : ℕ → List ℕ) {names : ℕ} {t₀ t : List ℕ} {i : ℕ} (n : ℕ) → Marking names t₀ (F i) t → i ≡ n → t ≡ markLabels names t₀ (F n)
+marking-end F {names} {t₀} n w e = w .holds ∙ ap (λ (k : ℕ). markLabels names t₀ (F k)) e
 
 -- the names up to the place behind i, of a range that starts at `from`
 module _ (names : List ℕ) (from i : ℕ) (low : from ≤ i) where
@@ -74,20 +74,20 @@ named-more s c = rw (add-one c) (sym (append-assoc (namedBy s c) _ _))
 
 -- What stands at a label's place: 1 where the list has the label.
 module _ (names i : ℕ) (few : names ≤ LOADER) (h : i ≤ names) where
-  mark-at : (t : List ℕ) (l : ℕ) → i < length t → mark names t l ! i ≡ cond (eqb l (labelAt names i)) 1 (t ! i)
-  mark-at t l m = go (eqb l (labelAt names i)) refl
+  mark-at : (t : List ℕ) (l : ℕ) → i < length t → markLabel names t l ! i ≡ cond (eqb l (tableLabel names i)) 1 (t ! i)
+  mark-at t l m = go (eqb l (tableLabel names i)) refl
     where
-      go : (a : Bool) → eqb l (labelAt names i) ≡ a → mark names t l ! i ≡ cond a 1 (t ! i)
+      go : (a : Bool) → eqb l (tableLabel names i) ≡ a → markLabel names t l ! i ≡ cond a 1 (t ! i)
       go true e =
-          let is : slotOf names l ≡ i = ap (slotOf names) (eqb-true l (labelAt names i) e) ∙ slot-label names i few h in
+          let is : tablePlace names l ≡ i = ap (tablePlace names) (eqb-true l (tableLabel names i) e) ∙ slot-label names i few h in
           rw is (getD-set-same t i 1 0 m)
       go false e =
-          getD-set-other t (slotOf names l) i 1 0
-          (λ q. eqb-false l (labelAt names i) e (sym (label-slot names l few (omega arith)) ∙ ap (labelAt names) (sym q)))
+          getD-set-other t (tablePlace names l) i 1 0
+          (λ q. eqb-false l (tableLabel names i) e (sym (label-slot names l few (omega arith)) ∙ ap (tableLabel names) (sym q)))
 
-  marks-at : (t ls : List ℕ) → i < length t → marks names t ls ! i ≡ cond (found (find ls (labelAt names i))) 1 (t ! i)
+  marks-at : (t ls : List ℕ) → i < length t → markLabels names t ls ! i ≡ cond (found (find ls (tableLabel names i))) 1 (t ! i)
   marks-at t [] m = refl
-  marks-at t (l ∷ ls) m = marks-at (mark names t l) ls (omega (arith, length-set t (slotOf names l) 1)) ∙ rw (mark-at t l m) (go (eqb l (labelAt names i)) (find ls (labelAt names i)))
+  marks-at t (l ∷ ls) m = marks-at (markLabel names t l) ls (omega (arith, length-set t (tablePlace names l) 1)) ∙ rw (mark-at t l m) (go (eqb l (tableLabel names i)) (find ls (tableLabel names i)))
     where
       go : (a : Bool) (f : Option ℕ) → cond (found f) 1 (cond a 1 (t ! i)) ≡ cond (found (cond a (some 0) (next f))) 1 (t ! i)
       go true none = refl
@@ -96,16 +96,16 @@ module _ (names i : ℕ) (few : names ≤ LOADER) (h : i ≤ names) where
       go false (some j) = refl
 
 -- "Rising, then `LOADER`": the labels marked in a table of zeros are those that occur.
-pub marked-occurring : (names : ℕ) (t ls : List ℕ) → names ≤ LOADER → names + 1 ≤ length t → ((i : ℕ) → i ≤ names → t ! i ≡ 0) → marked names (marks names t ls) ≡ occurring names ls
-unfolding marked occurring
+pub marked-occurring : (names : ℕ) (t ls : List ℕ) → names ≤ LOADER → names + 1 ≤ length t → ((i : ℕ) → i ≤ names → t ! i ≡ 0) → markedLabels names (markLabels names t ls) ≡ occurring names ls
+unfolding markedLabels occurring
 marked-occurring names t ls few long zero-at =
-    let last : isMarked (marks names t ls) names ≡ found (find ls LOADER) = same names (omega arith) ∙ rw (eq-eqb names names refl) in
-    label-places names (isMarked (marks names t ls))
+    let last : isMarked (markLabels names t ls) names ≡ found (find ls LOADER) = same names (omega arith) ∙ rw (eq-eqb names names refl) in
+    label-places names (isMarked (markLabels names t ls))
     ∙ ap₂ _++_ (places-ext _ _ names (λ i h. same i (omega arith) ∙ rw (ne-eqb i names (λ e. omega arith)))) (ap (λ (b : Bool). cond b (LOADER ∷ []) []) last)
   where
     one-is : (b : Bool) → eqb (cond b 1 0) 1 ≡ b
     one-is true = refl
     one-is false = refl
 
-    same : (i : ℕ) → i ≤ names → isMarked (marks names t ls) i ≡ found (find ls (labelAt names i))
-    same i h = rw (marks-at names i few h t ls (omega arith), zero-at i h) (one-is (found (find ls (labelAt names i))))
+    same : (i : ℕ) → i ≤ names → isMarked (markLabels names t ls) i ≡ found (find ls (tableLabel names i))
+    same i h = rw (marks-at names i few h t ls (omega arith), zero-at i h) (one-is (found (find ls (tableLabel names i))))

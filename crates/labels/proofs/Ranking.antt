@@ -18,7 +18,7 @@ use Rattle.columns.proofs.Every.{Every, every-append, every-at, every-index, ev
 use Rattle.columns.proofs.Sums.{one-few}
 use Rattle.rules.specs.Types.{LOADER}
 use Rattle.rules.specs.Labels.{occurring, ranked}
-use Rattle.labels.specs.Fields.{labelAt, keyOf, isUsed, keyAt, keysOf, labelOf}
+use Rattle.labels.specs.Fields.{tableLabel, keyOf, isUsed, keyAt, keysOf, keyLabel}
 use Rattle.labels.proofs.Table.{label-places}
 
 -- a sort of images is the image of the sort by the images' order
@@ -61,7 +61,7 @@ count-few l [] = omega arith
 count-few l (a ∷ ls) = omega (arith, one-few (eqb a l), count-few l ls)
 
 -- a key gives its label back
-labels-back : (f : ℕ → ℕ) (xs : List ℕ) → Every (λ l. labelOf (f l) ≡ l) xs → map labelOf (map f xs) ≡ xs
+labels-back : (f : ℕ → ℕ) (xs : List ℕ) → Every (λ l. keyLabel (f l) ≡ l) xs → map keyLabel (map f xs) ≡ xs
 labels-back f [] e = refl
 labels-back f (a ∷ xs) e = ap₂ _∷_ (e .0) (labels-back f xs (e .1))
 
@@ -133,15 +133,15 @@ module _ (names : ℕ) (labels : List ℕ) (few : names ≤ LOADER) (short : len
   abbrev keyFor : ℕ → ℕ
   keyFor l = keyOf (count l labels) l
 
-  keys-are : (counts : List ℕ) → ((i : ℕ) → i ≤ names → counts ! i ≡ count (labelAt names i) labels) → keysOf names counts ≡ map keyFor (occurring names labels)
+  keys-are : (counts : List ℕ) → ((i : ℕ) → i ≤ names → counts ! i ≡ count (tableLabel names i) labels) → keysOf names counts ≡ map keyFor (occurring names labels)
   unfolding keysOf occurring
   keys-are counts at =
-      map-places (keyAt names counts) (λ i. keyFor (labelAt names i)) (isUsed counts) (names + 1) (λ i l. ap (λ (n : ℕ). keyOf n (labelAt names i)) (at i (omega arith)))
-      ∙ sym (map-map keyFor (labelAt names) (places (isUsed counts) (names + 1)))
+      map-places (keyAt names counts) (λ i. keyFor (tableLabel names i)) (isUsed counts) (names + 1) (λ i l. ap (λ (n : ℕ). keyOf n (tableLabel names i)) (at i (omega arith)))
+      ∙ sym (map-map keyFor (tableLabel names) (places (isUsed counts) (names + 1)))
       ∙ ap (map keyFor) (label-places names (isUsed counts) ∙ ap₂ _++_ (places-ext (isUsed counts) (λ l. found (find labels l)) names name) (ap (λ (b : Bool). cond b (LOADER ∷ []) []) last))
     where
-      is : (i : ℕ) → i ≤ names → isUsed counts i ≡ found (find labels (labelAt names i))
-      is i l = ap (ltb 0) (at i l) ∙ used-found (labelAt names i) labels
+      is : (i : ℕ) → i ≤ names → isUsed counts i ≡ found (find labels (tableLabel names i))
+      is i l = ap (ltb 0) (at i l) ∙ used-found (tableLabel names i) labels
 
       name : (i : ℕ) → i < names → isUsed counts i ≡ found (find labels i)
       name i l = is i (omega arith) ∙ rw (ne-eqb i names (λ e. omega arith))
@@ -164,13 +164,13 @@ module _ (names : ℕ) (labels : List ℕ) (few : names ≤ LOADER) (short : len
   every-ranked P loader name = every-sort P _ (occurring names labels) (every-occurring names labels few P loader name)
 
   -- of the sorted keys, the labels
-  pub ranked-keys : (counts : List ℕ) → ((i : ℕ) → i ≤ names → counts ! i ≡ count (labelAt names i) labels) → map labelOf (sort leb (keysOf names counts)) ≡ ranked names labels
+  pub ranked-keys : (counts : List ℕ) → ((i : ℕ) → i ≤ names → counts ! i ≡ count (tableLabel names i) labels) → map keyLabel (sort leb (keysOf names counts)) ≡ ranked names labels
   ranked-keys counts at =
-      ap (λ (z : List ℕ). map labelOf (sort leb z)) (keys-are counts at)
-      ∙ ap (map labelOf) sorted-keys
-      ∙ labels-back keyFor (ranked names labels) (every-ranked (λ l. labelOf (keyFor l) ≡ l) (back LOADER (omega arith)) (λ l h. back l (omega arith)))
+      ap (λ (z : List ℕ). map keyLabel (sort leb z)) (keys-are counts at)
+      ∙ ap (map keyLabel) sorted-keys
+      ∙ labels-back keyFor (ranked names labels) (every-ranked (λ l. keyLabel (keyFor l) ≡ l) (back LOADER (omega arith)) (λ l h. back l (omega arith)))
     where
-      back : (l : ℕ) → l ≤ LOADER → labelOf (keyFor l) ≡ l
+      back : (l : ℕ) → l ≤ LOADER → keyLabel (keyFor l) ≡ l
       back l h = omega arith
 
 -- the front of a list, number by number

@@ -17,8 +17,8 @@ use Rattle.columns.proofs.Lists.{tab-at, tab-length}
 use Rattle.columns.proofs.Written.{over-front}
 use Rattle.rules.specs.Types.{LOADER}
 use Rattle.rules.specs.Labels.{fieldCode, codeTable}
-use Rattle.labels.specs.Coding.{slotOf, TableOf}
-use Rattle.labels.specs.Fields.{labelAt, Named, uncoded}
+use Rattle.labels.specs.Coding.{tablePlace, TableOf}
+use Rattle.labels.specs.Fields.{tableLabel, Named, uncoded}
 use Rattle.labels.proofs.Table.{slot-label, label-slot, table-name, table-loader, table-other, table-length}
 
 -- the code of what is found among the fields from place k on
@@ -28,7 +28,7 @@ later k (some i) = i + k
 
 -- t₀ has become t: a table of the fields from place k on
 pub record Tabling (names : ℕ) (fields t₀ t : List ℕ) (k : ℕ) : Type 0 where
-  pub at : (i : ℕ) → i ≤ names → t ! i ≡ later k (find (drop k fields) (labelAt names i))
+  pub at : (i : ℕ) → i ≤ names → t ! i ≡ later k (find (drop k fields) (tableLabel names i))
   pub other : t ! (names + 1) ≡ 32767
   pub rest : drop (names + 2) t ≡ drop (names + 2) t₀
   pub same : length t ≡ length t₀
@@ -48,7 +48,7 @@ module _ (names : ℕ) (fields t₀ : List ℕ) (long : names + 2 ≤ length t�
 
     pub tabling-none : Tabling names fields t₀ t₀ (length fields)
     tabling-none = record {
-      at = λ i l. none-at i (omega arith) ∙ ap (λ (z : List ℕ). later (length fields) (find z (labelAt names i))) (sym (drop-length fields));
+      at = λ i l. none-at i (omega arith) ∙ ap (λ (z : List ℕ). later (length fields) (find z (tableLabel names i))) (sym (drop-length fields));
       other = none-at (names + 1) (omega arith);
       rest = refl;
       same = refl;
@@ -66,10 +66,10 @@ module _ (names : ℕ) (fields t₀ : List ℕ) (long : names + 2 ≤ length t�
       go false none = refl
       go false (some i) = omega arith
 
-  pub tabling-field : (t : List ℕ) (j : ℕ) → names ≤ LOADER → j < length fields → slotOf names (fields ! j) ≤ names → Tabling names fields t₀ t (suc j)
-      → Tabling names fields t₀ (set t (slotOf names (fields ! j)) j) j
+  pub tabling-field : (t : List ℕ) (j : ℕ) → names ≤ LOADER → j < length fields → tablePlace names (fields ! j) ≤ names → Tabling names fields t₀ t (suc j)
+      → Tabling names fields t₀ (set t (tablePlace names (fields ! j)) j) j
   tabling-field t j few h named w = record {
-    at = λ i l. rw (drop-cons fields j 0 h, later-step j f (labelAt names i) (find (drop (suc j) fields) (labelAt names i))) (go i l (eqb f (labelAt names i)) refl);
+    at = λ i l. rw (drop-cons fields j 0 h, later-step j f (tableLabel names i) (find (drop (suc j) fields) (tableLabel names i))) (go i l (eqb f (tableLabel names i)) refl);
     other = getD-set-other t s (names + 1) j 0 (λ q. omega arith) ∙ w .other;
     rest = drop-set-lt (names + 2) t s j (omega arith) ∙ w .rest;
     same = length-set t s j ∙ w .same;
@@ -79,14 +79,14 @@ module _ (names : ℕ) (fields t₀ : List ℕ) (long : names + 2 ≤ length t�
       f = fields ! j
 
       s : ℕ
-      s = slotOf names f
+      s = tablePlace names f
 
-      go : (i : ℕ) → i ≤ names → (b : Bool) → eqb f (labelAt names i) ≡ b → set t s j ! i ≡ cond b j (later (suc j) (find (drop (suc j) fields) (labelAt names i)))
+      go : (i : ℕ) → i ≤ names → (b : Bool) → eqb f (tableLabel names i) ≡ b → set t s j ! i ≡ cond b j (later (suc j) (find (drop (suc j) fields) (tableLabel names i)))
       go i l true e =
-          let is : s ≡ i = ap (slotOf names) (eqb-true f (labelAt names i) e) ∙ slot-label names i few l in
+          let is : s ≡ i = ap (tablePlace names) (eqb-true f (tableLabel names i) e) ∙ slot-label names i few l in
           rw is (getD-set-same t i j 0 (omega (arith, w .same)))
       go i l false e =
-          getD-set-other t s i j 0 (λ q. eqb-false f (labelAt names i) e (sym (label-slot names f few named) ∙ ap (labelAt names) (sym q))) ∙ w .at i l
+          getD-set-other t s i j 0 (λ q. eqb-false f (tableLabel names i) e (sym (label-slot names f few named) ∙ ap (tableLabel names) (sym q))) ∙ w .at i l
 
   -- all fields have their codes
   later-none : (o : Option ℕ) → later 0 o ≡ orElse 32767 o
@@ -98,8 +98,8 @@ module _ (names : ℕ) (fields t₀ : List ℕ) (long : names + 2 ≤ length t�
   tabling-end d t e w =
       rw (table-length names fields, ← behind d e, ← w .rest) (sym (take-append-drop (names + 2) t) ∙ ap (λ (z : List ℕ). z ++ drop (names + 2) t) front)
     where
-      code : (i : ℕ) → i ≤ names → t ! i ≡ fieldCode fields (labelAt names i)
-      code i l = w .at i l ∙ later-none (find fields (labelAt names i))
+      code : (i : ℕ) → i ≤ names → t ! i ≡ fieldCode fields (tableLabel names i)
+      code i l = w .at i l ∙ later-none (find fields (tableLabel names i))
 
       place : (i : ℕ) → i < names + 2 → t ! i ≡ codeTable names fields ! i
       place i l = go (decLt i names) (decLt i (names + 1))

@@ -17,7 +17,7 @@ use Rattle.rules.proofs.Meets.{Meets}
 use Rattle.rules.proofs.Codes.{own-at, codes-count, read-labels, coarse-code, label-good}
 use Rattle.labels.specs.declared.EdgeLabel.{EdgeLabel}
 use Rattle.labels.specs.declared.EdgeLabel.the-variants.{Is, Bad}
-use Rattle.labels.specs.Coding.{Laid}
+use Rattle.labels.specs.Coding.{LabelsLaid}
 use Rattle.labels.specs.Reading.{readSays, codedOf, coarseBack, exactBack}
 use Rattle.labels.proofs.Back.{exact-back, coarse-back}
 
@@ -30,7 +30,7 @@ module _ (names : ℕ) (p : Parts) (law : Meets names p) (small : (e : ℕ) → 
   abbrev d : Coded
   d = coded fields (p .offsets) (p .labels) (objectsOf p)
 
-  module _ {c₀ a₀ l₀ c a l : List ℕ} {rows : ℕ} (w : Laid d c₀ a₀ l₀ rows c a l) where
+  module _ {c₀ a₀ l₀ c a l : List ℕ} {rows : ℕ} (w : LabelsLaid d c₀ a₀ l₀ rows c a l) where
     abbrev left : Coded
     left = codedOf (take (length (p .labels)) c) fields (take rows a) (take rows l)
 

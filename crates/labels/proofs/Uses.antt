@@ -16,33 +16,33 @@ use Rattle.columns.specs.Columns.{zeros}
 use Rattle.columns.proofs.Lists.{lt-or-ge}
 use Rattle.columns.proofs.Written.{zero-at}
 use Rattle.rules.specs.Types.{LOADER}
-use Rattle.labels.specs.Coding.{slotOf}
-use Rattle.labels.specs.Fields.{labelAt, tally, uses}
+use Rattle.labels.specs.Coding.{tablePlace}
+use Rattle.labels.specs.Fields.{tableLabel, tallyLabel, uses}
 use Rattle.labels.proofs.Table.{slot-label, label-slot}
 
-tally-length : (names : ℕ) (t : List ℕ) (l : ℕ) → length (tally names t l) ≡ length t
-tally-length names t l = length-set t (slotOf names l) (t ! slotOf names l + 1)
+tally-length : (names : ℕ) (t : List ℕ) (l : ℕ) → length (tallyLabel names t l) ≡ length t
+tally-length names t l = length-set t (tablePlace names l) (t ! tablePlace names l + 1)
 
 pub uses-length : (names : ℕ) (t ls : List ℕ) → length (uses names t ls) ≡ length t
 uses-length names t [] = refl
-uses-length names t (l ∷ ls) = uses-length names (tally names t l) ls ∙ tally-length names t l
+uses-length names t (l ∷ ls) = uses-length names (tallyLabel names t l) ls ∙ tally-length names t l
 
 uses-append : (names : ℕ) (t xs ys : List ℕ) → uses names t (xs ++ ys) ≡ uses names (uses names t xs) ys
 uses-append names t [] ys = refl
-uses-append names t (l ∷ xs) ys = uses-append names (tally names t l) xs ys
+uses-append names t (l ∷ xs) ys = uses-append names (tallyLabel names t l) xs ys
 
 -- the first i labels, and one more
-pub uses-more : (names : ℕ) (t labels : List ℕ) (i : ℕ) → i < length labels → uses names t (take (i + 1) labels) ≡ tally names (uses names t (take i labels)) (labels ! i)
+pub uses-more : (names : ℕ) (t labels : List ℕ) (i : ℕ) → i < length labels → uses names t (take (i + 1) labels) ≡ tallyLabel names (uses names t (take i labels)) (labels ! i)
 uses-more names t labels i h = rw (add-one i, take-suc labels i 0 h) (uses-append names t (take i labels) (labels ! i ∷ []))
 
 -- no place has more than there are labels
-tally-few : (names : ℕ) (t : List ℕ) (l s : ℕ) → tally names t l ! s ≤ t ! s + 1
+tally-few : (names : ℕ) (t : List ℕ) (l s : ℕ) → tallyLabel names t l ! s ≤ t ! s + 1
 tally-few names t l s = go (eqb s p) refl
   where
     p : ℕ
-    p = slotOf names l
+    p = tablePlace names l
 
-    go : (b : Bool) → eqb s p ≡ b → tally names t l ! s ≤ t ! s + 1
+    go : (b : Bool) → eqb s p ≡ b → tallyLabel names t l ! s ≤ t ! s + 1
     go true e =
         let is : s ≡ p = eqb-true s p e in
         ⊎-elim
@@ -53,25 +53,25 @@ tally-few names t l s = go (eqb s p) refl
 
 pub uses-few : (names : ℕ) (t ls : List ℕ) (s : ℕ) → uses names t ls ! s ≤ t ! s + length ls
 uses-few names t [] s = omega arith
-uses-few names t (l ∷ ls) s = omega (arith, uses-few names (tally names t l) ls s, tally-few names t l s)
+uses-few names t (l ∷ ls) s = omega (arith, uses-few names (tallyLabel names t l) ls s, tally-few names t l s)
 
 -- at a label's place: how often the list has the label
 module _ (names i : ℕ) (few : names ≤ LOADER) (h : i ≤ names) where
-  tally-at : (t : List ℕ) (l : ℕ) → i < length t → tally names t l ! i ≡ t ! i + one (eqb l (labelAt names i))
-  tally-at t l m = go (eqb l (labelAt names i)) refl
+  tally-at : (t : List ℕ) (l : ℕ) → i < length t → tallyLabel names t l ! i ≡ t ! i + one (eqb l (tableLabel names i))
+  tally-at t l m = go (eqb l (tableLabel names i)) refl
     where
-      go : (b : Bool) → eqb l (labelAt names i) ≡ b → tally names t l ! i ≡ t ! i + one b
+      go : (b : Bool) → eqb l (tableLabel names i) ≡ b → tallyLabel names t l ! i ≡ t ! i + one b
       go true e =
-          let is : slotOf names l ≡ i = ap (slotOf names) (eqb-true l (labelAt names i) e) ∙ slot-label names i few h in
+          let is : tablePlace names l ≡ i = ap (tablePlace names) (eqb-true l (tableLabel names i) e) ∙ slot-label names i few h in
           rw is (getD-set-same t i (t ! i + 1) 0 m)
       go false e =
-          getD-set-other t (slotOf names l) i (t ! slotOf names l + 1) 0
-          (λ q. eqb-false l (labelAt names i) e (sym (label-slot names l few (omega arith)) ∙ ap (labelAt names) (sym q)))
+          getD-set-other t (tablePlace names l) i (t ! tablePlace names l + 1) 0
+          (λ q. eqb-false l (tableLabel names i) e (sym (label-slot names l few (omega arith)) ∙ ap (tableLabel names) (sym q)))
           ∙ sym (add-zero (t ! i))
 
-  pub uses-at : (t ls : List ℕ) → i < length t → uses names t ls ! i ≡ t ! i + count (labelAt names i) ls
+  pub uses-at : (t ls : List ℕ) → i < length t → uses names t ls ! i ≡ t ! i + count (tableLabel names i) ls
   uses-at t [] m = sym (add-zero (t ! i))
-  uses-at t (l ∷ ls) m = omega (arith, uses-at (tally names t l) ls (omega (arith, tally-length names t l)), tally-at t l m)
+  uses-at t (l ∷ ls) m = omega (arith, uses-at (tallyLabel names t l) ls (omega (arith, tally-length names t l)), tally-at t l m)
 
 -- counted from zeros, no place has more than the labels so far
 pub zeros-few : (names : ℕ) (t labels : List ℕ) (i s : ℕ) → t ≡ zeros (length t) → uses names t (take i labels) ! s ≤ i

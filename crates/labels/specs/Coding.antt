@@ -11,8 +11,8 @@ use Rattle.rules.specs.Types.{LOADER, ARRAY-ELEMENT, isElement}
 use Rattle.rules.specs.Labels.{expected, isEscaped, codeTable, Coded, coded, own}
 
 -- "A code table of names + 2 (each name, the loader, any other label)": where a label stands in it.
-unfoldable pub slotOf : ℕ → ℕ → ℕ
-slotOf names l = cond (eqb l LOADER) names (cond (ltb l names) l (names + 1))
+unfoldable pub tablePlace : ℕ → ℕ → ℕ
+tablePlace names l = cond (eqb l LOADER) names (cond (ltb l names) l (names + 1))
 
 -- names are fewer than the loader's label, and the table has room for them
 pub record Room (names : ℕ) (table : List ℕ) : Type 0 where
@@ -25,7 +25,7 @@ gapOf n index = min (index - n) 32767
 
 -- a label's code by the table, where n is expected; the codes of one object's labels, and of all objects'
 unfoldable pub codeBy : ℕ → List ℕ → ℕ → ℕ → ℕ
-codeBy names table n l = cond (isElement l) (32768 + gapOf n (l - ARRAY-ELEMENT)) (table ! slotOf names l)
+codeBy names table n l = cond (isElement l) (32768 + gapOf n (l - ARRAY-ELEMENT)) (table ! tablePlace names l)
 
 abbrev pub codeIn : ℕ → List ℕ → List ℕ → ℕ → ℕ
 codeIn names table ls k = codeBy names table (expected ls k) (ls ! k)
@@ -65,16 +65,16 @@ pub record Escapes (codes labels a₀ l₀ : List ℕ) (r : ℕ) (a l : List ℕ
 
 -- the table holds the codes of these fields
 pub record TableOf (names : ℕ) (fields table : List ℕ) : Type 0 where
-  pub named : (k : ℕ) → k < length fields → slotOf names (fields ! k) ≤ names
+  pub named : (k : ℕ) → k < length fields → tablePlace names (fields ! k) ≤ names
   pub front : take (names + 2) table ≡ codeTable names fields
 
 -- What `count_escapes` answers: the need of buffer 7, whatever fields the table is of.
-pub record Counted (names : ℕ) (table offsets labels : List ℕ) (r : ℕ) : Type 0 where
+pub record EscapesCounted (names : ℕ) (table offsets labels : List ℕ) (r : ℕ) : Type 0 where
   pub rows : r ≡ escapesIn (allBy names table offsets labels (length offsets - 1))
   pub need : (fields : List ℕ) → TableOf names fields table → r ≡ length (coded fields offsets labels (length offsets - 1) .escapeAt)
 
 -- What `write_codes` leaves, whatever fields the table is of: the coded columns over the fronts of those that it is lent; r is the number of escapes.
-pub record Laid (d : Coded) (c₀ a₀ l₀ : List ℕ) (r : ℕ) (c a l : List ℕ) : Type 0 where
+pub record LabelsLaid (d : Coded) (c₀ a₀ l₀ : List ℕ) (r : ℕ) (c a l : List ℕ) : Type 0 where
   pub rows : r ≡ length (d .escapeAt)
   pub codes : c ≡ over (d .codes) c₀
   pub escape-at : a ≡ over (d .escapeAt) a₀
@@ -82,4 +82,4 @@ pub record Laid (d : Coded) (c₀ a₀ l₀ : List ℕ) (r : ℕ) (c a l : List 
 
 abbrev pub CodesLaid : ℕ → List ℕ → List ℕ → List ℕ → List ℕ → List ℕ → List ℕ → ℕ → List ℕ → List ℕ → List ℕ → Type 0
 CodesLaid names table offsets labels c₀ a₀ l₀ r c a l =
-    (fields : List ℕ) → TableOf names fields table → Laid (coded fields offsets labels (length offsets - 1)) c₀ a₀ l₀ r c a l
+    (fields : List ℕ) → TableOf names fields table → LabelsLaid (coded fields offsets labels (length offsets - 1)) c₀ a₀ l₀ r c a l

@@ -11,27 +11,27 @@ use Rattle.columns.specs.Lists.{_!_, collect, tab, places}
 use Rattle.columns.specs.Columns.{over}
 use Rattle.rules.specs.Types.{LOADER}
 use Rattle.rules.specs.Labels.{ranked}
-use Rattle.labels.specs.Coding.{slotOf}
+use Rattle.labels.specs.Coding.{tablePlace}
 
 -- the label whose place in the table is i: a name, or behind all names the loader
-abbrev pub labelAt : ℕ → ℕ → ℕ
-labelAt names i = cond (eqb i names) LOADER i
+abbrev pub tableLabel : ℕ → ℕ → ℕ
+tableLabel names i = cond (eqb i names) LOADER i
 
 -- fields that are names or the loader
 abbrev pub Named : ℕ → List ℕ → Type 0
-Named names fields = (k : ℕ) → k < length fields → slotOf names (fields ! k) ≤ names
+Named names fields = (k : ℕ) → k < length fields → tablePlace names (fields ! k) ≤ names
 
 -- "32,767 where there is none": a table of n places without codes
 abbrev pub uncoded : ℕ → List ℕ
 uncoded n = tab (λ i. 32767) n
 
 -- The table marked with 1 at a label's place, and at the places of a list's labels.
-abbrev pub mark : ℕ → List ℕ → ℕ → List ℕ
-mark names t l = set t (slotOf names l) 1
+abbrev pub markLabel : ℕ → List ℕ → ℕ → List ℕ
+markLabel names t l = set t (tablePlace names l) 1
 
-abbrev pub marks : ℕ → List ℕ → List ℕ → List ℕ
-marks names t [] = t
-marks names t (l ∷ ls) = marks names (mark names t l) ls
+abbrev pub markLabels : ℕ → List ℕ → List ℕ → List ℕ
+markLabels names t [] = t
+markLabels names t (l ∷ ls) = markLabels names (markLabel names t l) ls
 
 -- "Every slot label and object static name of any class": of one class's slots, of its statics, and of the first m classes.
 abbrev pub slotsNamed : List ℕ → ℕ → ℕ → List ℕ
@@ -84,16 +84,16 @@ pub record Ranges (s : Naming) (m : ℕ) : Type 0 where
 abbrev pub isMarked : List ℕ → ℕ → Bool
 isMarked table i = eqb (table ! i) 1
 
-unfoldable pub marked : ℕ → List ℕ → List ℕ
-marked names table = map (labelAt names) (places (isMarked table) (names + 1))
+unfoldable pub markedLabels : ℕ → List ℕ → List ℕ
+markedLabels names table = map (tableLabel names) (places (isMarked table) (names + 1))
 
 -- How often each label is used (law `counted`): 1 more at a label's place, and at the places of a list's labels.
-abbrev pub tally : ℕ → List ℕ → ℕ → List ℕ
-tally names t l = set t (slotOf names l) (t ! slotOf names l + 1)
+abbrev pub tallyLabel : ℕ → List ℕ → ℕ → List ℕ
+tallyLabel names t l = set t (tablePlace names l) (t ! tablePlace names l + 1)
 
 abbrev pub uses : ℕ → List ℕ → List ℕ → List ℕ
 uses names t [] = t
-uses names t (l ∷ ls) = uses names (tally names t l) ls
+uses names t (l ∷ ls) = uses names (tallyLabel names t l) ls
 
 -- "Ranked by use, ties by smaller label": keys rise where use falls, and with the label where it is the same. The labels of the sorted keys are the rule
 -- `ranked`, by the law `is-ranked`.
@@ -104,17 +104,17 @@ abbrev pub isUsed : List ℕ → ℕ → Bool
 isUsed counts i = ltb 0 (counts ! i)
 
 abbrev pub keyAt : ℕ → List ℕ → ℕ → ℕ
-keyAt names counts i = keyOf (counts ! i) (labelAt names i)
+keyAt names counts i = keyOf (counts ! i) (tableLabel names i)
 
 unfoldable pub keysOf : ℕ → List ℕ → List ℕ
 keysOf names counts = map (keyAt names counts) (places (isUsed counts) (names + 1))
 
 -- the label of a key
-abbrev pub labelOf : ℕ → ℕ
-labelOf key = key % 4294967296
+abbrev pub keyLabel : ℕ → ℕ
+keyLabel key = key % 4294967296
 
-abbrev pub labelsOf : List ℕ → ℕ → List ℕ
-labelsOf keys n = tab (λ i. labelOf (keys ! i)) n
+abbrev pub keyLabels : List ℕ → ℕ → List ℕ
+keyLabels keys n = tab (λ i. keyLabel (keys ! i)) n
 
 -- What `write_keys` leaves.
 pub record Keyed (names : ℕ) (counts k₀ : List ℕ) (r : ℕ) (k : List ℕ) : Type 0 where
@@ -123,15 +123,15 @@ pub record Keyed (names : ℕ) (counts k₀ : List ℕ) (r : ℕ) (k : List ℕ)
 
 -- "The first 32,767 get codes": the rule `fieldsOf` where more are listed, by the laws `first-labels` and `fields-ranked`; else it is `listed`, by the law
 -- `fields-listed`.
-unfoldable pub firstOf : ℕ → ℕ → List ℕ → List ℕ
-firstOf k names labels = take k (ranked names labels)
+unfoldable pub firstRanked : ℕ → ℕ → List ℕ → List ℕ
+firstRanked k names labels = take k (ranked names labels)
 
 abbrev pub first : ℕ → List ℕ → List ℕ
-first names labels = firstOf 32767 names labels
+first names labels = firstRanked 32767 names labels
 
 -- numbers of 32 bits
-abbrev pub Few : List ℕ → Type 0
-Few counts = (i : ℕ) → i < length counts → counts ! i ≤ 4294967295
+abbrev pub Of32Bits : List ℕ → Type 0
+Of32Bits counts = (i : ℕ) → i < length counts → counts ! i ≤ 4294967295
 
 -- What `rank_fields` and `write_fields` leave: these fields over the front of the column; r is how many they are.
 pub record Chosen (fields f₀ : List ℕ) (r : ℕ) (f : List ℕ) : Type 0 where

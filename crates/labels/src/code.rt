@@ -8,7 +8,7 @@ ghost use Rattle.columns.specs.Columns.{over};
 ghost use Rattle.columns.specs.Loans.{entry, exit};
 ghost use Rattle.rules.specs.Types.{LOADER};
 ghost use Rattle.rules.specs.Labels.{after, isEscaped};
-ghost use Rattle.labels.specs.Coding.{slotOf, Room, gapOf, codeBy, codesBy, allBy, LaidOut, escapesIn, escapedTo, RoomFor, Escapes, Counted, CodesLaid};
+ghost use Rattle.labels.specs.Coding.{tablePlace, Room, gapOf, codeBy, codesBy, allBy, LaidOut, escapesIn, escapedTo, RoomFor, Escapes, EscapesCounted, CodesLaid};
 
 // The low bits of a code whose label is kept whole in the escapes, and the bit of an element.
 pub const ESCAPED: u16 = 32767;
@@ -18,7 +18,7 @@ pub const ELEMENT: u16 = 32768;
 // Where a label stands in the code table.
 pub fn slot_of(label: u32, names: usize) -> usize
     requires { ⌜ names ≤ LOADER ⌝ }
-    ensures { λ r. ⌜ r ≡ slotOf names label ⌝ }
+    ensures { λ r. ⌜ r ≡ tablePlace names label ⌝ }
 {
     if label == Label::LOADER {
         return names;
@@ -119,7 +119,7 @@ fn count_object(labels: &[u32], names: usize, table: &[u16]) -> usize
 // The need of buffer 7: how many labels are escaped.
 pub fn count_escapes(offsets: &[u64], labels: &[u32], names: usize, table: &[u16]) -> usize
     requires { ⌜ Room names (now table) × LaidOut (now offsets) (length (now labels)) ⌝ }
-    ensures { λ r. ⌜ Counted names (entry table) (entry offsets) (entry labels) r ⌝ }
+    ensures { λ r. ⌜ EscapesCounted names (entry table) (entry offsets) (entry labels) r ⌝ }
 {
     let objects = offsets.len() - 1;
     let mut rows = 0;

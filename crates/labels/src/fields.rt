@@ -10,7 +10,7 @@ ghost use Rattle.columns.specs.Loans.{entry, exit};
 ghost use Rattle.rules.specs.Types.{LOADER};
 ghost use Rattle.rules.specs.Labels.{codeTable};
 ghost use Rattle.labels.specs.Coding.{Room};
-ghost use Rattle.labels.specs.Fields.{labelAt, Named, uncoded, mark, marks, slotsNamed, staticsNamed, nameColumns, namedBy, Ranges, marked};
+ghost use Rattle.labels.specs.Fields.{tableLabel, Named, uncoded, markLabel, markLabels, slotsNamed, staticsNamed, nameColumns, namedBy, Ranges, markedLabels};
 
 // A table of n places without codes.
 fn clear_table(table: &mut [u16], n: usize)
@@ -41,7 +41,7 @@ pub fn write_table(fields: &[u32], names: usize, table: &mut [u16])
 // 1 at the label's place.
 fn mark(label: u32, names: usize, table: &mut [u16])
     requires { ⌜ Room names (now table) ⌝ }
-    ensures { λ _. ⌜ exit table ≡ mark names (entry table) label ⌝ }
+    ensures { λ _. ⌜ exit table ≡ markLabel names (entry table) label ⌝ }
 {
     table[slot_of(label, names)] = 1;
 }
@@ -49,7 +49,7 @@ fn mark(label: u32, names: usize, table: &mut [u16])
 // The labels of one class's slots; or of a range of edges, where the fields that occur are counted.
 pub fn mark_slots(labels: &[u32], from: usize, to: usize, names: usize, table: &mut [u16])
     requires { ⌜ (from ≤ to) × (to ≤ length (now labels)) × Room names (now table) ⌝ }
-    ensures { λ _. ⌜ exit table ≡ marks names (entry table) (slotsNamed (entry labels) from (to - from)) ⌝ }
+    ensures { λ _. ⌜ exit table ≡ markLabels names (entry table) (slotsNamed (entry labels) from (to - from)) ⌝ }
 {
     let mut i = from;
     while i < to {
@@ -68,7 +68,7 @@ fn mark_statics(
     table: &mut [u16],
 )
     requires { ⌜ (from ≤ to) × (to ≤ length (now «static_names»)) × (to ≤ length (now types)) × Room names (now table) ⌝ }
-    ensures { λ _. ⌜ exit table ≡ marks names (entry table) (staticsNamed (entry «static_names») (entry types) from (to - from)) ⌝ }
+    ensures { λ _. ⌜ exit table ≡ markLabels names (entry table) (staticsNamed (entry «static_names») (entry types) from (to - from)) ⌝ }
 {
     let mut i = from;
     while i < to {
@@ -97,7 +97,7 @@ pub fn mark_named(
     requires { ⌜ Room names (now table) × Ranges (nameColumns now «slot_starts» «slot_ends» «static_starts» «static_ends» «slot_labels» «static_names» «static_types») classes ⌝ }
     ensures { λ _. ⌜ (
         let columns = nameColumns entry «slot_starts» «slot_ends» «static_starts» «static_ends» «slot_labels» «static_names» «static_types» in
-        exit table ≡ marks names (entry table) (LOADER ∷ namedBy columns classes)) ⌝ }
+        exit table ≡ markLabels names (entry table) (LOADER ∷ namedBy columns classes)) ⌝ }
 {
     mark(Label::LOADER, names, table);
     let mut c = 0;
@@ -115,7 +115,7 @@ pub fn mark_named(
 // How many labels are marked.
 pub fn count_marked(table: &[u16], names: usize) -> usize
     requires { ⌜ Room names (now table) ⌝ }
-    ensures { λ r. ⌜ r ≡ length (marked names (entry table)) ⌝ }
+    ensures { λ r. ⌜ r ≡ length (markedLabels names (entry table)) ⌝ }
 {
     let mut k = 0;
     let mut i = 0;
@@ -133,7 +133,7 @@ pub fn count_marked(table: &[u16], names: usize) -> usize
 // The label at a place of the table.
 pub(crate) fn label_at(at: usize, names: usize) -> u32
     requires { ⌜ (at ≤ names) × (names ≤ LOADER) ⌝ }
-    ensures { λ r. ⌜ r ≡ labelAt names at ⌝ }
+    ensures { λ r. ⌜ r ≡ tableLabel names at ⌝ }
 {
     if at == names {
         Label::LOADER
@@ -144,8 +144,8 @@ pub(crate) fn label_at(at: usize, names: usize) -> u32
 
 // The labels that are marked: names rising, then the loader.
 pub fn write_marked(table: &[u16], names: usize, fields: &mut [u32])
-    requires { ⌜ Room names (now table) × (length (marked names (now table)) ≤ length (now fields)) ⌝ }
-    ensures { λ _. ⌜ exit fields ≡ over (marked names (entry table)) (entry fields) ⌝ }
+    requires { ⌜ Room names (now table) × (length (markedLabels names (now table)) ≤ length (now fields)) ⌝ }
+    ensures { λ _. ⌜ exit fields ≡ over (markedLabels names (entry table)) (entry fields) ⌝ }
 {
     let mut k = 0;
     let mut i = 0;

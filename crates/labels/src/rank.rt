@@ -6,7 +6,7 @@ ghost use Prim.Native.Nat.{_≤_, min};
 ghost use lib.ListN.{length};
 ghost use Rattle.columns.specs.Columns.{over, zeros};
 ghost use Rattle.labels.specs.Coding.{Room};
-ghost use Rattle.labels.specs.Fields.{uses, keyOf, labelsOf, Keyed, first, Few, Chosen};
+ghost use Rattle.labels.specs.Fields.{uses, keyOf, keyLabels, Keyed, first, Of32Bits, Chosen};
 
 // How often each label occurs on the edges, by its place in the table.
 pub fn count_uses(labels: &[u32], names: usize, counts: &mut [u64])
@@ -31,7 +31,7 @@ fn key_of(count: u64, label: u32) -> u64
 
 // The keys of the labels that occur; the answer is how many they are.
 fn write_keys(counts: &[u64], names: usize, keys: &mut [u64]) -> usize
-    requires { ⌜ Room names (now counts) × Room names (now keys) × Few (now counts) ⌝ }
+    requires { ⌜ Room names (now counts) × Room names (now keys) × Of32Bits (now counts) ⌝ }
     ensures { λ r. ⌜ Keyed names (now (counts .entry)) (now (keys .entry)) r (now (keys .exit)) ⌝ }
 {
     let mut k = 0;
@@ -52,7 +52,7 @@ fn write_keys(counts: &[u64], names: usize, keys: &mut [u64]) -> usize
 // The labels of the first n keys.
 fn write_ranked(keys: &[u64], n: usize, fields: &mut [u32])
     requires { ⌜ (n ≤ length (now keys)) × (n ≤ length (now fields)) ⌝ }
-    ensures { λ _. ⌜ now (fields .exit) ≡ over (labelsOf (now (keys .entry)) n) (now (fields .entry)) ⌝ }
+    ensures { λ _. ⌜ now (fields .exit) ≡ over (keyLabels (now (keys .entry)) n) (now (fields .entry)) ⌝ }
 {
     let mut i = 0;
     while i < n {

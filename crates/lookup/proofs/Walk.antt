@@ -18,12 +18,12 @@ use Rattle.lookup.specs.declared.Found.the-variants.{At, Missing}
 use Rattle.lookup.specs.Lookup.{lookupOf}
 
 -- none of the first i ids is x, and so many of them are below it
-pub record Passed (xs : List ℕ) (x below i : ℕ) : Type 0 where
+pub record PassedBy (xs : List ℕ) (x below i : ℕ) : Type 0 where
   pub inside : i ≤ length xs
   pub none : (p : ℕ) → p < i → xs ! p ≡ x → ⊥
   pub counted : below ≡ rank (take i xs) x
 
-pub passed-none : (xs : List ℕ) (x : ℕ) → Passed xs x 0 0
+pub passed-none : (xs : List ℕ) (x : ℕ) → PassedBy xs x 0 0
 unfolding rank
 passed-none xs x = record { inside = zero-le; none = λ p l. absurd (not-suc-le-zero l); counted = refl }
 
@@ -31,8 +31,8 @@ rank-more : (xs : List ℕ) (x i : ℕ) → i < length xs → rank (take (i + 1)
 unfolding rank
 rank-more xs x i l = rw (add-one, take-suc xs i 0 l) (omega (arith, sum-append (λ a. one (ltb a x)) (take i xs) (xs ! i ∷ [])))
 
-module _ {xs : List ℕ} {x below i : ℕ} (w : Passed xs x below i) where
-  pub passed-more : {k : ℕ} → i < length xs → (xs ! i ≡ x → ⊥) → k ≡ one (ltb (xs ! i) x) → Passed xs x (below + k) (i + 1)
+module _ {xs : List ℕ} {x below i : ℕ} (w : PassedBy xs x below i) where
+  pub passed-more : {k : ℕ} → i < length xs → (xs ! i ≡ x → ⊥) → k ≡ one (ltb (xs ! i) x) → PassedBy xs x (below + k) (i + 1)
   passed-more l differs e =
       record {
         inside = omega arith;

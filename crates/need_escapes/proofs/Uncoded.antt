@@ -23,8 +23,8 @@ use Rattle.columns.proofs.Sums.{sum-append, sum-sort, sum-collect, sum-tab, sum
 use Rattle.columns.proofs.Counts.{occurs, occurs-count, places-count, places-beyond, places-length, places-within}
 use Rattle.rules.specs.Types.{LOADER, ARRAY-ELEMENT, isElement}
 use Rattle.rules.specs.Labels.{occurring, ranked, fieldCode, labelCode, expected, codesOf, codesFor, isEscaped, coded, own}
-use Rattle.labels.specs.Coding.{slotOf, codeBy, codeIn, codesBy, allBy, LaidOut, Room, escapesIn, escapedTo}
-use Rattle.labels.specs.Fields.{labelAt, firstOf}
+use Rattle.labels.specs.Coding.{tablePlace, codeBy, codeIn, codesBy, allBy, LaidOut, Room, escapesIn, escapedTo}
+use Rattle.labels.specs.Fields.{tableLabel, firstRanked}
 use Rattle.labels.proofs.Table.{label-places}
 use Rattle.labels.proofs.Escapes.{escapes-places, escapes-append, escapes-few}
 use Rattle.labels.proofs.Codes.{laid-within, all-length}
@@ -94,38 +94,38 @@ module _ (names : ℕ) (labels : List ℕ) (few : names ≤ LOADER) where
       go false e h = omega (arith, other-none l (eqb-false l LOADER e) h)
 
   -- The labels that occur, by their places in the table; those used more than t times.
-  occurring-places : occurring names labels ≡ map (labelAt names) (places (λ i. occurs labels (labelAt names i)) (names + 1))
+  occurring-places : occurring names labels ≡ map (tableLabel names) (places (λ i. occurs labels (tableLabel names i)) (names + 1))
   unfolding occurring
   occurring-places =
-      sym (label-places names (λ i. occurs labels (labelAt names i))
+      sym (label-places names (λ i. occurs labels (tableLabel names i))
       ∙ ap₂ _++_ (places-ext _ _ names (λ i l. rw (ne-eqb i names (λ e. omega arith)))) (ap (λ (b : Bool). cond b (LOADER ∷ []) []) last))
     where
-      last : occurs labels (labelAt names names) ≡ occurs labels LOADER
+      last : occurs labels (tableLabel names names) ≡ occurs labels LOADER
       last = rw (eq-eqb names names refl)
 
   falls : Chain (falling uses) (ranked names labels)
   unfolding ranked
   falls = sort-falls uses (occurring names labels)
 
-  module _ (table : List ℕ) (at : (i : ℕ) → i ≤ names → table ! i ≡ min 65535 (uses (labelAt names i))) where
+  module _ (table : List ℕ) (at : (i : ℕ) → i ≤ names → table ! i ≡ min 65535 (uses (tableLabel names i))) where
     used-more : (t : ℕ) → t < 65535 → moreThan uses t (ranked names labels) ≡ usedMore names table t
     unfolding ranked usedMore places
     used-more t low =
         sum-sort (λ a. one (ltb t (uses a))) _ (occurring names labels)
         ∙ ap (moreThan uses t) occurring-places
-        ∙ sum-map (λ a. one (ltb t (uses a))) (labelAt names) (places (λ i. occurs labels (labelAt names i)) (names + 1))
-        ∙ sum-collect (λ i. one (ltb t (uses (labelAt names i)))) (λ i. cond (occurs labels (labelAt names i)) (i ∷ []) []) (names + 1)
-        ∙ total-ext _ _ (names + 1) (λ i l. each i (at i (omega arith)) (occurs labels (labelAt names i)) (occurs-count labels (labelAt names i)))
+        ∙ sum-map (λ a. one (ltb t (uses a))) (tableLabel names) (places (λ i. occurs labels (tableLabel names i)) (names + 1))
+        ∙ sum-collect (λ i. one (ltb t (uses (tableLabel names i)))) (λ i. cond (occurs labels (tableLabel names i)) (i ∷ []) []) (names + 1)
+        ∙ total-ext _ _ (names + 1) (λ i l. each i (at i (omega arith)) (occurs labels (tableLabel names i)) (occurs-count labels (tableLabel names i)))
         ∙ sym (places-length (isMore table t) (names + 1))
       where
-        each : (i : ℕ) → table ! i ≡ min 65535 (uses (labelAt names i)) → (b : Bool) → one b ≡ min 1 (uses (labelAt names i))
-            → sum (λ j. one (ltb t (uses (labelAt names j)))) (cond b (i ∷ []) []) ≡ one (ltb t (table ! i))
+        each : (i : ℕ) → table ! i ≡ min 65535 (uses (tableLabel names i)) → (b : Bool) → one b ≡ min 1 (uses (tableLabel names i))
+            → sum (λ j. one (ltb t (uses (tableLabel names j)))) (cond b (i ∷ []) []) ≡ one (ltb t (table ! i))
         each i e true h =
             add-zero _
             ∙ ⊎-elim
-            (λ l. rw (lt-ltb t (uses (labelAt names i)) l, lt-ltb t (table ! i) (omega arith)))
-            (λ l. rw (le-ltb t (uses (labelAt names i)) l, le-ltb t (table ! i) (omega arith)))
-            (lt-or-ge t (uses (labelAt names i)))
+            (λ l. rw (lt-ltb t (uses (tableLabel names i)) l, lt-ltb t (table ! i) (omega arith)))
+            (λ l. rw (le-ltb t (uses (tableLabel names i)) l, le-ltb t (table ! i) (omega arith)))
+            (lt-or-ge t (uses (tableLabel names i)))
         each i e false h = rw (le-ltb t (table ! i) (omega arith))
 
     -- no more labels are used 65,535 times than have codes, where there are no more than 2^28 edges
@@ -148,29 +148,29 @@ module _ (names : ℕ) (labels : List ℕ) (few : names ≤ LOADER) where
     abbrev rest : List ℕ
     rest = drop k (ranked names labels)
 
-    split-count : (l : ℕ) → count l (firstOf k names labels) + count l rest ≡ count l (ranked names labels)
-    unfolding firstOf
+    split-count : (l : ℕ) → count l (firstRanked k names labels) + count l rest ≡ count l (ranked names labels)
+    unfolding firstRanked
     split-count l =
         sym (sum-append (λ a. one (eqb a l)) (take k (ranked names labels)) (drop k (ranked names labels))) ∙ ap (count l) (take-append-drop k (ranked names labels))
 
-    first-length : length (firstOf k names labels) ≤ k
-    unfolding firstOf
+    first-length : length (firstRanked k names labels) ≤ k
+    unfolding firstRanked
     first-length = omega (arith, length-take k (ranked names labels))
 
-    field-escapes : (l : ℕ) → count l (ranked names labels) ≡ 1 → one (isEscaped (fieldCode (firstOf k names labels) l)) ≡ count l rest
+    field-escapes : (l : ℕ) → count l (ranked names labels) ≡ 1 → one (isEscaped (fieldCode (firstRanked k names labels) l)) ≡ count l rest
     unfolding fieldCode
-    field-escapes l h = go (find (firstOf k names labels) l) refl (occurs-count (firstOf k names labels) l)
+    field-escapes l h = go (find (firstRanked k names labels) l) refl (occurs-count (firstRanked k names labels) l)
       where
-        go : (f : Option ℕ) → find (firstOf k names labels) l ≡ f → one (found f) ≡ min 1 (count l (firstOf k names labels)) → one (isEscaped (orElse 32767 f)) ≡ count l rest
+        go : (f : Option ℕ) → find (firstRanked k names labels) l ≡ f → one (found f) ≡ min 1 (count l (firstRanked k names labels)) → one (isEscaped (orElse 32767 f)) ≡ count l rest
         go none e g = omega (arith, split-count l)
         go (some i) e g =
-            let low : i < 32767 = omega (arith, find-get (firstOf k names labels) l i e .0, first-length) in
+            let low : i < 32767 = omega (arith, find-get (firstRanked k names labels) l i e .0, first-length) in
             let same : i % 32768 ≡ i = omega arith in
             rw (same, ne-eqb i 32767 (λ q. omega arith)) (omega (arith, split-count l))
 
     -- it is escaped where an element is escaped in any table, or where it is a field behind those that have codes
     abbrev Splits : ℕ → ℕ → Type 0
-    Splits n l = one (isEscaped (labelCode (firstOf k names labels) n l)) ≡ one (isEscaped (codeBy names (zeros z) n l)) + count l rest
+    Splits n l = one (isEscaped (labelCode (firstRanked k names labels) n l)) ≡ one (isEscaped (codeBy names (zeros z) n l)) + count l rest
 
     escapes-one : (e n : ℕ) → e < length labels → Splits n (labels ! e)
     unfolding codeBy
@@ -180,7 +180,7 @@ module _ (names : ℕ) (labels : List ℕ) (few : names ≤ LOADER) where
         here = ap one (occurs-at labels e l)
 
         field : isElement (labels ! e) ≡ false → count (labels ! e) (ranked names labels) ≡ 1 → Splits n (labels ! e)
-        field f h = rw (f, zero-at z (slotOf names (labels ! e))) (omega (arith, field-escapes (labels ! e) h))
+        field f h = rw (f, zero-at z (tablePlace names (labels ! e))) (omega (arith, field-escapes (labels ! e) h))
 
         name : labels ! e < names → Splits n (labels ! e)
         name h = field (lt-leb ARRAY-ELEMENT (labels ! e) (omega arith)) (name-once (labels ! e) h ∙ here)
@@ -198,20 +198,20 @@ module _ (names : ℕ) (labels : List ℕ) (few : names ≤ LOADER) where
       escapes-tab g n = sum-tab (λ c. one (isEscaped c)) g n
 
       object : (o : ℕ) → suc o < length offsets
-          → escapesIn (codesOf (firstOf k names labels) (own offsets labels o)) ≡ escapesIn (codesBy names (zeros z) (own offsets labels o)) + sum (λ l. count l rest) (own offsets labels o)
+          → escapesIn (codesOf (firstRanked k names labels) (own offsets labels o)) ≡ escapesIn (codesBy names (zeros z) (own offsets labels o)) + sum (λ l. count l rest) (own offsets labels o)
       unfolding codesOf codesBy
       object o h =
           let ls : List ℕ = own offsets labels o in
           let in-labels = laid-within laid o h in
           let size : length ls ≡ offsets ! suc o - offsets ! o = part-length labels (offsets ! o) (offsets ! suc o) (in-labels .1) in
-          escapes-tab (λ i. labelCode (firstOf k names labels) (expected ls i) (ls ! i)) (length ls)
+          escapes-tab (λ i. labelCode (firstRanked k names labels) (expected ls i) (ls ! i)) (length ls)
           ∙ total-ext _ _ (length ls)
           (λ i l. subst (Splits (expected ls i)) (sym (part-at labels (offsets ! o) (offsets ! suc o) i (omega arith))) (escapes-one (offsets ! o + i) (expected ls i) (omega arith)))
           ∙ total-add (λ i. one (isEscaped (codeIn names (zeros z) ls i))) (λ i. count (ls ! i) rest) (length ls)
           ∙ ap₂ _+_ (sym (escapes-tab (codeIn names (zeros z) ls) (length ls))) (sym (sum-places (λ l. count l rest) ls))
 
       objects : (m : ℕ) → m < length offsets
-          → escapesIn (codesFor (firstOf k names labels) offsets labels m) ≡ escapesIn (allBy names (zeros z) offsets labels m) + sum (λ l. count l rest) (take (offsets ! m) labels)
+          → escapesIn (codesFor (firstRanked k names labels) offsets labels m) ≡ escapesIn (allBy names (zeros z) offsets labels m) + sum (λ l. count l rest) (take (offsets ! m) labels)
       unfolding codesFor allBy escapesIn
       objects zero h = rw (laid .starts)
       objects (suc m) h =
@@ -224,14 +224,14 @@ module _ (names : ℕ) (labels : List ℕ) (few : names ≤ LOADER) where
             objects m (omega arith),
             object m h,
             sum-append (λ l. count l rest) (take (offsets ! m) labels) (own offsets labels m),
-            escapes-append (codesFor (firstOf k names labels) offsets labels m) (codesOf (firstOf k names labels) (own offsets labels m)),
+            escapes-append (codesFor (firstRanked k names labels) offsets labels m) (codesOf (firstRanked k names labels) (own offsets labels m)),
             escapes-append (allBy names (zeros z) offsets labels m) (codesBy names (zeros z) (own offsets labels m)),
           ))
 
-      pub escapes-split : length (coded (firstOf k names labels) offsets labels (length offsets - 1) .escapeAt) ≡ escapesIn (allBy names (zeros z) offsets labels (length offsets - 1)) + sum uses rest
+      pub escapes-split : length (coded (firstRanked k names labels) offsets labels (length offsets - 1) .escapeAt) ≡ escapesIn (allBy names (zeros z) offsets labels (length offsets - 1)) + sum uses rest
       unfolding coded escapedTo
       escapes-split =
-          sym (escapes-places (codesFor (firstOf k names labels) offsets labels (length offsets - 1)))
+          sym (escapes-places (codesFor (firstRanked k names labels) offsets labels (length offsets - 1)))
           ∙ objects (length offsets - 1) (omega (arith, laid .some))
           ∙ ap (λ (n : ℕ). escapesIn (allBy names (zeros z) offsets labels (length offsets - 1)) + n)
           (ap (λ (n : ℕ). sum (λ l. count l rest) (take n labels)) (laid .ends) ∙ ap (sum (λ l. count l rest)) (take-length labels) ∙ count-swap labels rest)
@@ -253,7 +253,7 @@ module _ (names : ℕ) (offsets labels t₀ : List ℕ) (room : Room names t₀)
   zeros-are : z ≡ zeros (length t₀)
   zeros-are = zeroed t₀ cleared-is
 
-  at : (i : ℕ) → i ≤ names → t ! i ≡ min 65535 (count (labelAt names i) labels)
+  at : (i : ℕ) → i ≤ names → t ! i ≡ min 65535 (count (tableLabel names i) labels)
   at i l = ap (λ (d : List ℕ). d ! i) (counted ∙ ap (λ (d : List ℕ). capped names d labels) zeros-are) ∙ capped-count names i (room .few) l (length t₀) labels (omega (arith, room .long))
 
   same : length t ≡ length t₀
@@ -274,7 +274,7 @@ module _ (names : ℕ) (offsets labels t₀ : List ℕ) (room : Room names t₀)
         omega (arith, elements, escapes-few (allBy names z offsets labels (length offsets - 1)), all-length names z offsets labels laid (length offsets - 1) (omega (arith, laid .some)), laid .ends)
 
     pub escapes-sum : {b : ℕ} (k last : ℕ) → k ≤ 32767 → last ≤ 65534 → usedMore names t last ≤ k → b ≡ layers k names t last
-        → a + b ≡ length (coded (firstOf k names labels) offsets labels (length offsets - 1) .escapeAt)
+        → a + b ≡ length (coded (firstRanked k names labels) offsets labels (length offsets - 1) .escapeAt)
     escapes-sum k last codes low ends rows =
         ap₂ _+_ (elements ∙ ap (λ (d : List ℕ). escapesIn (allBy names d offsets labels (length offsets - 1))) zeros-are)
         (rows ∙ layers-behind names labels (room .few) t at k last low ends)

@@ -10,7 +10,7 @@ use Rattle.columns.specs.Lists.{_!_, places, total}
 use Rattle.columns.specs.Columns.{zeros}
 use Rattle.rules.specs.Types.{LOADER, ARRAY-ELEMENT}
 use Rattle.rules.specs.Labels.{Coded}
-use Rattle.labels.specs.Coding.{slotOf}
+use Rattle.labels.specs.Coding.{tablePlace}
 
 -- "Labels below the name count, `LOADER` or elements."
 abbrev pub Labelled : ℕ → List ℕ → Type 0
@@ -18,7 +18,7 @@ Labelled names labels = (e : ℕ) → e < length labels → (labels ! e < names)
 
 -- How often each label is used, up to 65,535: 1 more at a label's place, and at the places of a list's labels.
 abbrev pub cap : ℕ → List ℕ → ℕ → List ℕ
-cap names t l = set t (slotOf names l) (min 65535 (t ! slotOf names l + 1))
+cap names t l = set t (tablePlace names l) (min 65535 (t ! tablePlace names l + 1))
 
 abbrev pub capped : ℕ → List ℕ → List ℕ → List ℕ
 capped names t [] = t

@@ -16,7 +16,7 @@ use Rattle.rules.specs.declared.ReferencePolicy.{ReferencePolicy}
 use Rattle.rules.specs.Types.{keeps}
 use Rattle.rules.specs.Edges.{Kind, slot, element, static, loader, Ref, Outcome, outcome, settled, absent, nothing, weakOf, refWeak}
 use Rattle.rules.proofs.Bounds.{weak-few}
-use Rattle.edge_append.specs.Append.{refOf, weakIn}
+use Rattle.edge_append.specs.Append.{refOf, weakAmong}
 use Rattle.edge_append.specs.Held.{keptOf, slotWith, copiedSlot, copiedSlots}
 use Rattle.edge_append.specs.Raw.{rawSlot, rawSlots, slotsRead}
 use Rattle.edge_append.proofs.Outcomes.{Becomes}
@@ -68,7 +68,7 @@ module _ (ids labels weak : List ℕ) (place id : ℕ) where
 
 -- references of a table, summed
 pub pairs-tab : (ids : List ℕ) (f : ℕ → Ref) (n : ℕ) → pairsIn ids (tab f n) ≡ total (λ k. length (refWeak ids (f k))) n
-unfolding pairsIn weakIn
+unfolding pairsIn weakAmong
 pairs-tab ids f n = length-flat (refWeak ids) (tab f n) ∙ sum-tab (λ r. length (refWeak ids r)) f n
 
 pub pairs-none : (ids : List ℕ) (f : ℕ → Ref) → 0 ≡ pairsIn ids (tab f 0)
@@ -95,7 +95,7 @@ pub none-in : (ids : List ℕ) (f : ℕ → Ref) (n : ℕ) → ((k : ℕ) → re
 none-in ids f n h = sym (pairs-tab ids f n ∙ total-none _ n (λ k l. ap length (h k)))
 
 empty-in : (ids : List ℕ) → 0 ≡ pairsIn ids []
-unfolding pairsIn weakIn
+unfolding pairsIn weakAmong
 empty-in ids = refl
 
 -- One object's pairs, by its kind and by whether its class's kind is kept: by the copied route,

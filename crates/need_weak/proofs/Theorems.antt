@@ -11,7 +11,7 @@ use Rattle.rules.specs.Types.{keeps}
 use Rattle.rules.specs.Input.{Input, Schema, Copied, Raw, Route.copied, Route.raw, objectCount, slotCount, readSlots, slotFits, fits, slotKept, slotId, idAt, rawId, classesAt, isObjectStatic, staticTotal}
 use Rattle.rules.specs.Edges.{Ref, Pair, pairLe, pairsOf, weakPairs, weakTargets, graph, refs, slotRefs, otherRefs, slotRef, elementRef, staticRef, staticRefs, loaderRef, classRefs, outcome, refWeak}
 use Rattle.rules.specs.Needs.{needWeak}
-use Rattle.edge_append.specs.Append.{weakIn}
+use Rattle.edge_append.specs.Append.{weakAmong}
 use Rattle.edge_append.specs.Held.{SlotsIn, keptOf, slotWith, copiedSlot, copiedSlots}
 use Rattle.edge_append.specs.Raw.{bytesId, slotEnds, slotsRead, rawSlot, rawSlots}
 use Rattle.need_weak.specs.Pairs.{pairsIn, copiedPairs, copiedTotal, rawPairs, rawTotal}
@@ -47,7 +47,7 @@ module _ (x : Input) (o : ℕ) where
 
   -- "Weak pairs" come from slots alone: elements, statics and loaders are kept.
   slots-alone : length (weakTargets x o) ≡ total (λ k. length (refWeak (x .objects .ids) (slotRef x o k))) (readSlots x o)
-  unfolding weakTargets refs slotRefs pairsIn weakIn
+  unfolding weakTargets refs slotRefs pairsIn weakAmong
   slots-alone =
       ap length
       (flat-append (refWeak (x .objects .ids)) (slotRefs x o) (otherRefs x o)

@@ -12,7 +12,7 @@ use Rattle.index.specs.Copied.{Ids}
 use Rattle.rules.specs.declared.ReferencePolicy.{ReferencePolicy}
 use Rattle.rules.specs.Types.{keeps}
 use Rattle.rules.specs.Edges.{Ref, refWeak}
-use Rattle.edge_append.specs.Append.{refOf, weakIn}
+use Rattle.edge_append.specs.Append.{refOf, weakAmong}
 use Rattle.edge_append.specs.Held.{copiedSlots}
 use Rattle.edge_append.specs.Raw.{rawSlots}
 
@@ -22,7 +22,7 @@ pairTo ids id = length (refWeak ids (refOf 0 0 false id))
 
 -- how many weak pairs references give: the rule `weakTargets` of an object's references, law `slots-alone`
 unfoldable pub pairsIn : List ℕ → List Ref → ℕ
-pairsIn ids rs = length (weakIn ids rs)
+pairsIn ids rs = length (weakAmong ids rs)
 
 -- a count, and no more than so many
 pub record Few (count most r : ℕ) : Type 0 where

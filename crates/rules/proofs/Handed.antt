@@ -36,7 +36,7 @@ parts-refuse names p =
     refuse-append (refuse-append (refuse-append (refuse-append (refuse-in 1 _) (refuse-in 2 _)) (refuse-in 3 _)) (refuse-in 4 _)) (refuse-in 5 _)
 
 -- The tests that accepted parts passed.
-pub record Passed (s : Schema) (p : Parts) : Type 0 where
+pub record HandedPassed (s : Schema) (p : Parts) : Type 0 where
   pub lengths : schemaLengths s ≡ false
   pub even : length (p .weakFrom) ≡ length (p .weakTo)
   pub limits : overLimit (objectsOf p) s ≡ false
@@ -44,7 +44,7 @@ pub record Passed (s : Schema) (p : Parts) : Type 0 where
   pub labels : length (p .labels) ≤ 268435456
   pub parts : Meets (s .names) p
 
-pub handed-passed : (s : Schema) (p : Parts) → handedFaults s p ≡ [] → Passed s p
+pub handed-passed : (s : Schema) (p : Parts) → handedFaults s p ≡ [] → HandedPassed s p
 unfolding handedFaults
 handed-passed s p e =
     let e5 = append-empty _ (partsFaults (s .names) p) e in
@@ -73,7 +73,7 @@ module _ (s : Schema) (p : Parts) (l : Lent) (ok : accepts (partsSays s p l) ≡
   unfolding partsSays
   nothing-wrong = refuse-append (handed-refuse s p) (refuse-at 9 refl _) .none-met _ ok
 
-  pub parts-passed : Passed s p
+  pub parts-passed : HandedPassed s p
   parts-passed = handed-passed s p (append-empty (handedFaults s p) _ nothing-wrong .0)
 
   pub parts-room : shortOfParts s p l ≡ []

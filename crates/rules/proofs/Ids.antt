@@ -20,18 +20,18 @@ use Rattle.rules.specs.Verdict.{badSize}
 use Rattle.rules.proofs.Acceptance.{Passed, size-good}
 
 -- the value of an answer has 64 bits
-abbrev Fits : List ℕ → Type 0
-Fits a = cond (accepts a) (a ! 1) 0 < 2 ^ 64
+abbrev Fits64 : List ℕ → Type 0
+Fits64 a = cond (accepts a) (a ! 1) 0 < 2 ^ 64
 
-either : (b : Bool) (p q : List ℕ) → Fits p → Fits q → Fits (cond b p q)
+either : (b : Bool) (p q : List ℕ) → Fits64 p → Fits64 q → Fits64 (cond b p q)
 either true p q h l = h
 either false p q h l = l
 
-whole-fits : (i id : ℕ) → Fits (whole i id)
+whole-fits : (i id : ℕ) → Fits64 (whole i id)
 unfolding whole accepts
 whole-fits i id = go (anyOf (eqb id 0 ∷ leb (2 ^ 64) id ∷ [])) refl
   where
-    go : (b : Bool) → anyOf (eqb id 0 ∷ leb (2 ^ 64) id ∷ []) ≡ b → Fits (cond b (5 ∷ i ∷ []) (0 ∷ id ∷ []))
+    go : (b : Bool) → anyOf (eqb id 0 ∷ leb (2 ^ 64) id ∷ []) ≡ b → Fits64 (cond b (5 ∷ i ∷ []) (0 ∷ id ∷ []))
     go true e = omega arith
     go false e = leb-false _ _ (none-of _ e 1)
 

@@ -17,7 +17,7 @@ use Rattle.columns.proofs.Written.{Written, written-none, written-push, cleared
 use Rattle.rules.specs.Built.{fillSays, slotsLeft}
 use Rattle.slot_rows.specs.declared.SlotRow.{SlotRow}
 use Rattle.slot_rows.specs.declared.Filled.{Filled}
-use Rattle.slot_rows.specs.Rows.{filledSays, offsetOf, labelOf, weakOf, Filling, Settled, roomFor, rowOf, rowCount, rowsOf}
+use Rattle.slot_rows.specs.Rows.{filledSays, rowOffset, rowLabel, rowWeak, Filling, RowsSettled, roomFor, rowOf, rowCount, rowsOf}
 
 -- a column after the first k rows were written to its front
 abbrev pub Wrote : (SlotRow → ℕ) → List SlotRow → ℕ → List ℕ → List ℕ → Type 0
@@ -62,7 +62,7 @@ room-within n a b c = go (short n a b c) refl
 
 -- What the steps leave is what the contract says.
 module _ (rows : List SlotRow) (o₀ l₀ w₀ : List ℕ) {o l w o′ l′ w′ : List ℕ} {r : Filled} {n room : ℕ} (count : n ≡ length rows) (rm : room ≡ roomFor n (length o₀) (length l₀) (length w₀))
-    (s : Settled n room r o l w o′ l′ w′) where
+    (s : RowsSettled n room r o l w o′ l′ w′) where
   abbrev a : ℕ
   a = length o₀
 
@@ -73,7 +73,7 @@ module _ (rows : List SlotRow) (o₀ l₀ w₀ : List ℕ) {o l w o′ l′ w′
   c = length w₀
 
   -- the answer
-  says : filledSays r ≡ fillSays offsetOf labelOf weakOf rows a b c
+  says : filledSays r ≡ fillSays rowOffset rowLabel rowWeak rows a b c
   unfolding fillSays roomFor
   says = s .answer ∙ rw (rm, ← count) (go (short n a b c) refl)
     where
@@ -82,11 +82,11 @@ module _ (rows : List SlotRow) (o₀ l₀ w₀ : List ℕ) {o l w o′ l′ w′
       go false h = rw (le-ltb n n (omega arith))
 
   -- one column
-  column : (f : SlotRow → ℕ) (m : ℕ) (d₀ d d′ : List ℕ) → length d₀ ≡ m → room ≤ m → Wrote f rows room d₀ d → d′ ≡ cleared room d → d′ ≡ leaves (fillSays offsetOf labelOf weakOf rows a b c) (map f rows) m
+  column : (f : SlotRow → ℕ) (m : ℕ) (d₀ d d′ : List ℕ) → length d₀ ≡ m → room ≤ m → Wrote f rows room d₀ d → d′ ≡ cleared room d → d′ ≡ leaves (fillSays rowOffset rowLabel rowWeak rows a b c) (map f rows) m
   unfolding fillSays roomFor accepts over
   column f m d₀ d d′ len fits wrote e = go (short n a b c) refl
     where
-      go : (t : Bool) → short n a b c ≡ t → d′ ≡ leaves (fillSays offsetOf labelOf weakOf rows a b c) (map f rows) m
+      go : (t : Bool) → short n a b c ≡ t → d′ ≡ leaves (fillSays rowOffset rowLabel rowWeak rows a b c) (map f rows) m
       go true h =
           let none : room ≡ 0 = rm ∙ rw h in
           let same : d ≡ d₀ = wrote ∙ rw none in
@@ -98,15 +98,15 @@ module _ (rows : List SlotRow) (o₀ l₀ w₀ : List ℕ) {o l w o′ l′ w′
           let whole : d ≡ over (map f rows) d₀ = wrote ∙ ap (λ (z : List SlotRow). over (map f z) d₀) every in
           leaves-padded _ (map f rows) m (rw (← count, h)) (e ∙ ap (cleared room) whole ∙ cleared-over (map f rows) d₀ room long (rw len fits) ∙ ap (padded (map f rows)) len)
 
-  pub filled : Wrote offsetOf rows room o₀ o → Wrote labelOf rows room l₀ l → Wrote weakOf rows room w₀ w → Filling rows a b c r o′ l′ w′
+  pub filled : Wrote rowOffset rows room o₀ o → Wrote rowLabel rows room l₀ l → Wrote rowWeak rows room w₀ w → Filling rows a b c r o′ l′ w′
   unfolding slotsLeft
   filled wo wl ww =
       let fits = room-within n a b c in
       record {
         answer = says;
-        offsets = column offsetOf a o₀ o o′ refl (rw rm (fits .1)) wo (s .offsets);
-        labels = column labelOf b l₀ l l′ refl (rw rm (fits .2)) wl (s .labels);
-        weak = column weakOf c w₀ w w′ refl (rw rm (fits .3)) ww (s .weak);
+        offsets = column rowOffset a o₀ o o′ refl (rw rm (fits .1)) wo (s .offsets);
+        labels = column rowLabel b l₀ l l′ refl (rw rm (fits .2)) wl (s .labels);
+        weak = column rowWeak c w₀ w w′ refl (rw rm (fits .3)) ww (s .weak);
       }
 
 -- Rows from columns: what is copied from a column is the rows' values.
@@ -133,7 +133,7 @@ module _ (fo fl fw o₀ l₀ w₀ : List ℕ) {n room : ℕ} (count : n ≡ min 
       let most : room ≤ n = rw rm (fits .0) in
       (omega arith, omega arith, omega arith, rw rm (fits .1), rw rm (fits .2), rw rm (fits .3))
 
-  pub columns-filled : {o l w o′ l′ w′ : List ℕ} {r : Filled} → Settled n room r o l w o′ l′ w′ → o ≡ over (take room fo) o₀ → l ≡ over (take room fl) l₀ → w ≡ over (take room fw) w₀
+  pub columns-filled : {o l w o′ l′ w′ : List ℕ} {r : Filled} → RowsSettled n room r o l w o′ l′ w′ → o ≡ over (take room fo) o₀ → l ≡ over (take room fl) l₀ → w ≡ over (take room fw) w₀
       → Filling (rowsOf fo fl fw) (length o₀) (length l₀) (length w₀) r o′ l′ w′
   unfolding rowsOf rowCount
   columns-filled {o} {l} {w} s eo el ew =
@@ -142,4 +142,4 @@ module _ (fo fl fw o₀ l₀ w₀ : List ℕ) {n room : ℕ} (count : n ≡ min 
       let most : room ≤ n = rw rm (room-within n (length o₀) (length l₀) (length w₀) .0) in
       let wrote : (f : SlotRow → ℕ) (xs d₀ d : List ℕ) → room ≤ length xs → ((i : ℕ) → f (g i) ≡ xs ! i) → d ≡ over (take room xs) d₀ → Wrote f (tab g n) room d₀ d
       = λ f xs d₀ d b h e. e ∙ ap (λ (z : List ℕ). over z d₀) (copied-rows f g xs n room most b h) in
-      rw (← count) (filled (tab g n) o₀ l₀ w₀ (sym (tab-length g n)) rm s (wrote offsetOf fo o₀ o (fits .0) (λ i. refl) eo) (wrote labelOf fl l₀ l (fits .1) (λ i. refl) el) (wrote weakOf fw w₀ w (fits .2) (λ i. refl) ew))
+      rw (← count) (filled (tab g n) o₀ l₀ w₀ (sym (tab-length g n)) rm s (wrote rowOffset fo o₀ o (fits .0) (λ i. refl) eo) (wrote rowLabel fl l₀ l (fits .1) (λ i. refl) el) (wrote rowWeak fw w₀ w (fits .2) (λ i. refl) ew))

@@ -17,18 +17,18 @@ abbrev pub filledSays : Filled → List ℕ
 filledSays (Filled.Done n) = 0 ∷ n ∷ []
 filledSays (Filled.Room b) = 9 ∷ b ∷ []
 
-abbrev pub offsetOf : SlotRow → ℕ
-offsetOf r = r .offset
+abbrev pub rowOffset : SlotRow → ℕ
+rowOffset r = r .offset
 
-abbrev pub labelOf : SlotRow → ℕ
-labelOf r = r .label
+abbrev pub rowLabel : SlotRow → ℕ
+rowLabel r = r .label
 
-abbrev pub weakOf : SlotRow → ℕ
-weakOf r = r .weak
+abbrev pub rowWeak : SlotRow → ℕ
+rowWeak r = r .weak
 
 -- What a call leaves of rows, in columns of a, b and c numbers: its answer, and the three columns. "Their outputs are zero after a refusal."
 abbrev pub left : List SlotRow → ℕ → ℕ → ℕ → SlotsLeft
-left rows a b c = slotsLeft offsetOf labelOf weakOf rows a b c
+left rows a b c = slotsLeft rowOffset rowLabel rowWeak rows a b c
 
 pub record Filling (rows : List SlotRow) (a b c : ℕ) (r : Filled) (o l w : List ℕ) : Type 0 where
   pub answer : filledSays r ≡ left rows a b c .says
@@ -51,7 +51,7 @@ unfoldable pub roomFor : ℕ → ℕ → ℕ → ℕ → ℕ
 roomFor n a b c = cond (anyOf (ltb a n ∷ ltb b n ∷ ltb c n ∷ [])) 0 n
 
 -- The last step: the ends behind what was written are cleared, and the answer says whether that is all.
-pub record Settled (n room : ℕ) (r : Filled) (o l w o′ l′ w′ : List ℕ) : Type 0 where
+pub record RowsSettled (n room : ℕ) (r : Filled) (o l w o′ l′ w′ : List ℕ) : Type 0 where
   pub answer : filledSays r ≡ cond (ltb room n) (9 ∷ 17 ∷ []) (0 ∷ n ∷ [])
   pub offsets : o′ ≡ cleared room o
   pub labels : l′ ≡ cleared room l

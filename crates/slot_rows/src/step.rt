@@ -4,7 +4,7 @@ ghost use mathlib.Core.Path.{_≡_};
 ghost use Prim.Native.Nat.{_≤_, min};
 ghost use lib.ListN.{length, take};
 ghost use Rattle.columns.specs.Columns.{over};
-ghost use Rattle.slot_rows.specs.Rows.{roomFor, Settled};
+ghost use Rattle.slot_rows.specs.Rows.{roomFor, RowsSettled};
 
 // How many rows three columns have.
 pub(crate) fn row_count(a: usize, b: usize, c: usize) -> usize
@@ -71,7 +71,7 @@ pub(crate) fn settle(
     labels: &mut [u32],
     weak: &mut [u8],
 ) -> Filled
-    ensures { λ r. ⌜ Settled n room r (now (offsets .entry)) (now (labels .entry)) (now (weak .entry)) (now (offsets .exit)) (now (labels .exit)) (now (weak .exit)) ⌝ }
+    ensures { λ r. ⌜ RowsSettled n room r (now (offsets .entry)) (now (labels .entry)) (now (weak .entry)) (now (offsets .exit)) (now (labels .exit)) (now (weak .exit)) ⌝ }
 {
     columns::zero_u32(offsets, room);
     columns::zero_u32(labels, room);

@@ -96,11 +96,11 @@ module _ {vs : List ℕ} {nb ns na nv : ℕ} {r : CodedOffsets} {b s a v : List 
   round-trip i h fits = rw done-used (reads-back vs i h fits (done-accepted .risen))
 
 -- ONE OUTCOME. Document 01's numbers and values tell the answers apart, and all else that a contract says is an equation.
-codedOf : List ℕ → CodedOffsets
-codedOf says = cond (eqb (says ! 0) 0) (Done (says ! 1) (says ! 2) (says ! 3)) (cond (eqb (says ! 0) 2) Limit (cond (eqb (says ! 0) 10) (Parts (says ! 2)) (Room (says ! 1))))
+answerOf : List ℕ → CodedOffsets
+answerOf says = cond (eqb (says ! 0) 0) (Done (says ! 1) (says ! 2) (says ! 3)) (cond (eqb (says ! 0) 2) Limit (cond (eqb (says ! 0) 10) (Parts (says ! 2)) (Room (says ! 1))))
 
-codedOf-says : (r : CodedOffsets) → codedOf (codedSays r) ≡ r
-unfolding codedOf
+codedOf-says : (r : CodedOffsets) → answerOf (codedSays r) ≡ r
+unfolding answerOf
 codedOf-says (Done b s l) = refl
 codedOf-says Limit = refl
 codedOf-says (Parts i) = refl
@@ -118,7 +118,7 @@ offsetOf-says (Columns i) = refl
 pub one-coding : {vs : List ℕ} {nb ns na nv : ℕ} {r r′ : CodedOffsets} {b b′ s s′ a a′ v v′ : List ℕ} → Coding vs nb ns na nv r b s a v → Coding vs nb ns na nv r′ b′ s′ a′ v′
     → (r ≡ r′) × (b ≡ b′) × (s ≡ s′) × (a ≡ a′) × (v ≡ v′)
 one-coding {r = r} {r′ = r′} c c′ =
-    let e : r ≡ r′ = sym (codedOf-says r) ∙ ap codedOf (c .answer ∙ sym (c′ .answer)) ∙ codedOf-says r′ in
+    let e : r ≡ r′ = sym (codedOf-says r) ∙ ap answerOf (c .answer ∙ sym (c′ .answer)) ∙ codedOf-says r′ in
     (e, rw e at (c .bases) ∙ sym (c′ .bases), rw e at (c .short) ∙ sym (c′ .short), rw e at (c .long-at) ∙ sym (c′ .long-at), rw e at (c .long-value) ∙ sym (c′ .long-value))
 
 pub one-offset : (says : List ℕ) (r r′ : Offset) → offsetSays r ≡ says → offsetSays r′ ≡ says → r ≡ r′

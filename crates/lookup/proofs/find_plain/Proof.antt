@@ -2,13 +2,13 @@
 use Prim.Native.Nat.{_-_}
 use native.Mathlib.Omega.{arith}
 use lib.ListN.{length}
-use Rattle.lookup.proofs.Walk.{Passed, passed-none, passed-more, passed-few, passed-at, passed-all}
+use Rattle.lookup.proofs.Walk.{PassedBy, passed-none, passed-more, passed-few, passed-at, passed-all}
 use borrow.Author.Needs.{needs}
 use Rattle.lookup.proofs.find_plain.Statement.{statement}
 use Rattle.lookup.proofs.find_plain.Tie as tie
 
 abbrev Inv-loop : tie.InvT-loop
-Inv-loop ids id below₀ i₀ below i = Passed ids id below i
+Inv-loop ids id below₀ i₀ below i = PassedBy ids id below i
 
 abbrev μ-loop : tie.MeasureT-loop
 μ-loop ids id below₀ i₀ below i = length ids - i

@@ -51,7 +51,7 @@ use denote.Triple.Clauses.{ensured, lasts}
 use denote.Triple.Table.{entered, cited}
 use denote.Triple.Walked.{says, Stays, stay-none-slice, gave-slice, walkOf, goes-none-slice, goes-gave-slice, Walks, ends-at, walked, walk-meets}
 use denote.Exit.{yes}
-use Rattle.slot_rows.specs.Rows.{offsetOf, labelOf, weakOf, roomFor, Settled}
+use Rattle.slot_rows.specs.Rows.{rowOffset, rowLabel, rowWeak, roomFor, RowsSettled}
 use Rattle.slot_rows.specs.declared.SlotRow.{SlotRow}
 use Rattle.slot_rows.specs.declared.Filled.{Filled}
 use Rattle.slot_rows.proofs.Laws.{room-within, filled}
@@ -141,22 +141,22 @@ module _ {M : Type 1} (𝓤 : URA M) (H : Heap 𝓤) (A : Atoms 𝓤) (W : Given
 
   -- the columns after i turns, how long they are, and what is lent to `settle`
   abbrev col1 : ℕ → List ℕ
-  col1 i = filledTo offsetOf (s .now) (t .now) i
+  col1 i = filledTo rowOffset (s .now) (t .now) i
 
   abbrev col2 : ℕ → List ℕ
-  col2 i = filledTo labelOf (s .now) (u .now) i
+  col2 i = filledTo rowLabel (s .now) (u .now) i
 
   abbrev col3 : ℕ → List ℕ
-  col3 i = filledTo weakOf (s .now) (w .now) i
+  col3 i = filledTo rowWeak (s .now) (w .now) i
 
   long1 : (i : ℕ) → length (col1 i) ≡ length (t .now)
-  long1 i = filled-length offsetOf (s .now) (t .now) i
+  long1 i = filled-length rowOffset (s .now) (t .now) i
 
   long2 : (i : ℕ) → length (col2 i) ≡ length (u .now)
-  long2 i = filled-length labelOf (s .now) (u .now) i
+  long2 i = filled-length rowLabel (s .now) (u .now) i
 
   long3 : (i : ℕ) → length (col3 i) ≡ length (w .now)
-  long3 i = filled-length weakOf (s .now) (w .now) i
+  long3 i = filled-length rowWeak (s .now) (w .now) i
 
   abbrev after1 : ℕ → RefT (List ℕ)
   after1 i = at-last t (col1 i)
@@ -224,13 +224,13 @@ module _ {M : Type 1} (𝓤 : URA M) (H : Heap 𝓤) (A : Atoms 𝓤) (W : Given
     goes-settle : (i : ℕ) → ent 𝓤 (⋆ 𝓤 H A ((‵ (flft κ₁ q₁) ⊛ ‵ (flft κ₂ q₂) ⊛ ‵ (flft κ₃ q₃) ⊛ ‵ ftrue) ∷ ‵ (lent i) ∷ [])) (Settle 𝓤 H A mem run .pre (to-settle i))
     goes-settle i = qed W ((‵ (flft κ₁ q₁) ⊛ ‵ (flft κ₂ q₂) ⊛ ‵ (flft κ₃ q₃) ⊛ ‵ ftrue) ∷ ‵ (lent i) ∷ []) ∵ join ! $ frame ! $ done !
 
-    exits : (i : ℕ) (y : Val) (r : Filled) (z₁ z₂ z₃ : List ℕ) → i ≡ ρ → Settled n ρ r (col1 i) (col2 i) (col3 i) z₁ z₂ z₃ → length z₁ ≡ length (t .now) → length z₂ ≡ length (u .now) → length z₃ ≡ length (w .now) → ent 𝓤
+    exits : (i : ℕ) (y : Val) (r : Filled) (z₁ z₂ z₃ : List ℕ) → i ≡ ρ → RowsSettled n ρ r (col1 i) (col2 i) (col3 i) z₁ z₂ z₃ → length z₁ ≡ length (t .now) → length z₂ ≡ length (u .now) → length z₃ ≡ length (w .now) → ent 𝓤
         (⋆ 𝓤 H A (‵ (flft κ₀ q₀) ∷ (‵ (flft κ₁ q₁) ⊛ ‵ (flft κ₂ q₂) ⊛ ‵ (flft κ₃ q₃) ⊛ ‵ ftrue) ∷ ‵ Shr ∷ ‵ Res ∷ ‵ (finally u32 (t .name) z₁) ∷ ‵ (finally u32 (u .name) z₂) ∷ ‵ (finally u8 (w .name) z₃)
         ∷ ‵ (S.the-row .own r (y ∷ [])) ∷ [])) (Post y)
     exits i y r z₁ z₂ z₃ same d k₁ k₂ k₃ =
         qed W (‵ (flft κ₀ q₀) ∷ (‵ (flft κ₁ q₁) ⊛ ‵ (flft κ₂ q₂) ⊛ ‵ (flft κ₃ q₃) ⊛ ‵ ftrue) ∷ ‵ Shr ∷ ‵ Res ∷ ‵ (finally u32 (t .name) z₁) ∷ ‵ (finally u32 (u .name) z₂) ∷ ‵ (finally u8 (w .name) z₃) ∷ ‵ (S.the-row .own r (y ∷ [])) ∷ []) ∵
         suffices ! _ (ends-at 𝓤 H A fill.ended stayed (fill.clauses 𝓤 H A mem run) W bound y r (tt, (z₁, (z₂, (z₃, tt)))) (tt, (k₁, (k₂, (k₃, tt))))) $
-        says ! (filled (s .now) (t .now) (u .now) (w .now) refl e d (filled-wrote offsetOf (s .now) (t .now) i ρ same le₀ le₁) (filled-wrote labelOf (s .now) (u .now) i ρ same le₀ le₂) (filled-wrote weakOf (s .now) (w .now) i ρ same le₀ le₃)) $
+        says ! (filled (s .now) (t .now) (u .now) (w .now) refl e d (filled-wrote rowOffset (s .now) (t .now) i ρ same le₀ le₁) (filled-wrote rowLabel (s .now) (u .now) i ρ same le₀ le₂) (filled-wrote rowWeak (s .now) (w .now) i ρ same le₀ le₃)) $
         join ! $
         frame ! $
         move ! (1 ∷ 0 ∷ []) $
@@ -322,37 +322,37 @@ module _ {M : Type 1} (𝓤 : URA M) (H : Heap 𝓤) (A : Atoms 𝓤) (W : Given
           assigns ! (bin ! (load ! (from ! (fld ! refl (stop !))) (look-in ! 25 (sub ! 0 refl (whole !)))) (load ! (from ! (stop !)) (look ! 12 refl)) tt) (from ! (stop !)) (init ! 15 refl (tt, tt)) $
           rewrite ! 15 (λ (p : ℕ). ‵ (fat fullShare tyPtr l₁₆ 0 (vptr (t .ptr .0) p))) (sym (place-is 4 (t .ptr .1) i)) refl $
           move ! (1 ∷ []) $
-          elem-out ! u32 (Is u32) (shows 𝓤 H A u32) (uint-vals w32) (uint-tells w32) fullShare (col1 i) i 0 (t .ptr .0) (t .ptr .1) (within ρ e ρ-fits offsetOf (t .now) i small (le₁ ρ e ρ-fits)) (λ _.
+          elem-out ! u32 (Is u32) (shows 𝓤 H A u32) (uint-vals w32) (uint-tells w32) fullShare (col1 i) i 0 (t .ptr .0) (t .ptr .1) (within ρ e ρ-fits rowOffset (t .now) i small (le₁ ρ e ρ-fits)) (λ _.
           assigns ! (of-opd ! (load ! (from ! (fld ! refl (stop !))) (look-in ! 9 (sub ! 0 refl (whole !))))) (from ! (hop ! (look ! 17 refl) (stop !))) (store ! 0 refl (tt, typed ρ e ρ-fits i g .1 .0)) $
           move ! (1 ∷ []) $
           drop ! $
           owned ! u32 (Is u32) (uint-makes 𝓤 H A W w32) (elem i .offset) _ (refl, typed ρ e ρ-fits i g .1 .0 .fits) $
           move ! (1 ∷ 0 ∷ 2 ∷ []) $
-          elem-put ! u32 fullShare (col1 i) i (elem i .offset) (vint w32 (elem i .offset) ∷ []) (t .ptr .0) (t .ptr .1) (within ρ e ρ-fits offsetOf (t .now) i small (le₁ ρ e ρ-fits)) $
-          rewrite ! 0 (λ (l : List ℕ). ‵ (row u32 fullShare l (t .ptr .0) (t .ptr .1))) (filled-next offsetOf (s .now) (t .now) i) refl $
+          elem-put ! u32 fullShare (col1 i) i (elem i .offset) (vint w32 (elem i .offset) ∷ []) (t .ptr .0) (t .ptr .1) (within ρ e ρ-fits rowOffset (t .now) i small (le₁ ρ e ρ-fits)) $
+          rewrite ! 0 (λ (l : List ℕ). ‵ (row u32 fullShare l (t .ptr .0) (t .ptr .1))) (filled-next rowOffset (s .now) (t .now) i) refl $
           assigns ! (bin ! (load ! (from ! (stop !)) (look ! 6 refl)) (lit ! tt) (by4 ρ e ρ-fits small (le₂ ρ e ρ-fits) g₂)) (from ! (stop !)) (store ! 12 refl (tt, by4 ρ e ρ-fits small (le₂ ρ e ρ-fits) g₂)) $
           assigns ! (bin ! (load ! (from ! (fld ! refl (stop !))) (look-in ! 26 (sub ! 0 refl (whole !)))) (load ! (from ! (stop !)) (look ! 12 refl)) tt) (from ! (stop !)) (init ! 16 refl (tt, tt)) $
           rewrite ! 16 (λ (p : ℕ). ‵ (fat fullShare tyPtr l₁₇ 0 (vptr (u .ptr .0) p))) (sym (place-is 4 (u .ptr .1) i)) refl $
           move ! (2 ∷ []) $
-          elem-out ! u32 (Is u32) (shows 𝓤 H A u32) (uint-vals w32) (uint-tells w32) fullShare (col2 i) i 0 (u .ptr .0) (u .ptr .1) (within ρ e ρ-fits labelOf (u .now) i small (le₂ ρ e ρ-fits)) (λ _.
+          elem-out ! u32 (Is u32) (shows 𝓤 H A u32) (uint-vals w32) (uint-tells w32) fullShare (col2 i) i 0 (u .ptr .0) (u .ptr .1) (within ρ e ρ-fits rowLabel (u .now) i small (le₂ ρ e ρ-fits)) (λ _.
           assigns ! (of-opd ! (load ! (from ! (fld ! refl (stop !))) (look-in ! 9 (sub ! 1 refl (whole !))))) (from ! (hop ! (look ! 18 refl) (stop !))) (store ! 0 refl (tt, typed ρ e ρ-fits i g .1 .1 .0)) $
           move ! (1 ∷ []) $
           drop ! $
           owned ! u32 (Is u32) (uint-makes 𝓤 H A W w32) (elem i .label) _ (refl, typed ρ e ρ-fits i g .1 .1 .0 .fits) $
           move ! (1 ∷ 0 ∷ 2 ∷ []) $
-          elem-put ! u32 fullShare (col2 i) i (elem i .label) (vint w32 (elem i .label) ∷ []) (u .ptr .0) (u .ptr .1) (within ρ e ρ-fits labelOf (u .now) i small (le₂ ρ e ρ-fits)) $
-          rewrite ! 0 (λ (l : List ℕ). ‵ (row u32 fullShare l (u .ptr .0) (u .ptr .1))) (filled-next labelOf (s .now) (u .now) i) refl $
+          elem-put ! u32 fullShare (col2 i) i (elem i .label) (vint w32 (elem i .label) ∷ []) (u .ptr .0) (u .ptr .1) (within ρ e ρ-fits rowLabel (u .now) i small (le₂ ρ e ρ-fits)) $
+          rewrite ! 0 (λ (l : List ℕ). ‵ (row u32 fullShare l (u .ptr .0) (u .ptr .1))) (filled-next rowLabel (s .now) (u .now) i) refl $
           assigns ! (bin ! (load ! (from ! (fld ! refl (stop !))) (look-in ! 27 (sub ! 0 refl (whole !)))) (load ! (from ! (stop !)) (look ! 6 refl)) tt) (from ! (stop !)) (init ! 17 refl (tt, tt)) $
           rewrite ! 17 (λ (p : ℕ). ‵ (fat fullShare tyPtr l₁₈ 0 (vptr (w .ptr .0) p))) (sym (place-byte (w .ptr .1) i)) refl $
           move ! (3 ∷ []) $
-          elem-out ! u8 (Is u8) (shows 𝓤 H A u8) (uint-vals w8) (uint-tells w8) fullShare (col3 i) i 0 (w .ptr .0) (w .ptr .1) (within ρ e ρ-fits weakOf (w .now) i small (le₃ ρ e ρ-fits)) (λ _.
+          elem-out ! u8 (Is u8) (shows 𝓤 H A u8) (uint-vals w8) (uint-tells w8) fullShare (col3 i) i 0 (w .ptr .0) (w .ptr .1) (within ρ e ρ-fits rowWeak (w .now) i small (le₃ ρ e ρ-fits)) (λ _.
           assigns ! (of-opd ! (load ! (from ! (fld ! refl (stop !))) (look-in ! 9 (sub ! 2 refl (whole !))))) (from ! (hop ! (look ! 19 refl) (stop !))) (store ! 0 refl (tt, typed ρ e ρ-fits i g .1 .1 .1 .0)) $
           move ! (1 ∷ []) $
           drop ! $
           owned ! u8 (Is u8) (uint-makes 𝓤 H A W w8) (elem i .weak) _ (refl, typed ρ e ρ-fits i g .1 .1 .1 .0 .fits) $
           move ! (1 ∷ 0 ∷ 2 ∷ []) $
-          elem-put ! u8 fullShare (col3 i) i (elem i .weak) (vint w8 (elem i .weak) ∷ []) (w .ptr .0) (w .ptr .1) (within ρ e ρ-fits weakOf (w .now) i small (le₃ ρ e ρ-fits)) $
-          rewrite ! 0 (λ (l : List ℕ). ‵ (row u8 fullShare l (w .ptr .0) (w .ptr .1))) (filled-next weakOf (s .now) (w .now) i) refl $
+          elem-put ! u8 fullShare (col3 i) i (elem i .weak) (vint w8 (elem i .weak) ∷ []) (w .ptr .0) (w .ptr .1) (within ρ e ρ-fits rowWeak (w .now) i small (le₃ ρ e ρ-fits)) $
+          rewrite ! 0 (λ (l : List ℕ). ‵ (row u8 fullShare l (w .ptr .0) (w .ptr .1))) (filled-next rowWeak (s .now) (w .now) i) refl $
           assigns-last ! (bin ! (load ! (from ! (stop !)) (look ! 6 refl)) (lit ! tt) (more ρ e ρ-fits small)) (from ! (stop !)) (store ! 6 refl (tt, more ρ e ρ-fits small)) $
           forget ! 7 refl $
           forget ! 11 refl $
@@ -421,10 +421,10 @@ module _ {M : Type 1} (𝓤 : URA M) (H : Heap 𝓤) (A : Atoms 𝓤) (W : Given
           use1 W (later (some (λ (r : Filled). ((‵ (flft κ₁ q₁) ⊛ ‵ (flft κ₂ q₂) ⊛ ‵ (flft κ₃ q₃) ⊛ ‵ ftrue) ⊛ ‵ (S.the-row .own r (y ∷ []))) ⊛ raw (ensured 𝓤 H A settle.ended (settle.clauses 𝓤 H A mem run) (κ₁, (κ₂, (κ₃, tt))) (settle-args ρ e ρ-fits i) tt r)))) (id⊢ 𝓤 _) $ await ! tt $ pick ! (λ r.
           split ! $
           move ! (1 ∷ []) $
-          use1 W (some (λ (zs : Unit {0} × (Unit {0} × (List ℕ × (List ℕ × (List ℕ × Unit {0}))))). ‵ (lasts settle.ended (κ₁, (κ₂, (κ₃, tt))) (settle-args ρ e ρ-fits i) zs) ⊛ raw (fact 𝓤 (Settled n ρ r (col1 i) (col2 i) (col3 i) (zs .1 .1 .0) (zs .1 .1 .1 .0) (zs .1 .1 .1 .1 .0))))) (id⊢ 𝓤 _) $ pick ! (λ zs.
+          use1 W (some (λ (zs : Unit {0} × (Unit {0} × (List ℕ × (List ℕ × (List ℕ × Unit {0}))))). ‵ (lasts settle.ended (κ₁, (κ₂, (κ₃, tt))) (settle-args ρ e ρ-fits i) zs) ⊛ raw (fact 𝓤 (RowsSettled n ρ r (col1 i) (col2 i) (col3 i) (zs .1 .1 .0) (zs .1 .1 .1 .0) (zs .1 .1 .1 .1 .0))))) (id⊢ 𝓤 _) $ pick ! (λ zs.
           split ! $
           move ! (1 ∷ []) $
-          heard ! (Settled n ρ r (col1 i) (col2 i) (col3 i) (zs .1 .1 .0) (zs .1 .1 .1 .0) (zs .1 .1 .1 .1 .0)) (λ d.
+          heard ! (RowsSettled n ρ r (col1 i) (col2 i) (col3 i) (zs .1 .1 .0) (zs .1 .1 .1 .0) (zs .1 .1 .1 .1 .0)) (λ d.
           fsplit ! $
           drop ! $
           fsplit ! $
@@ -568,13 +568,13 @@ module _ {M : Type 1} (𝓤 : URA M) (H : Heap 𝓤) (A : Atoms 𝓤) (W : Given
           looks-slice ! tt T.the-row (Is T.the-row) (shows 𝓤 H A T.the-row) (LL.vals T.the-type T′.the-laws) (LL.tells T.the-type T′.the-laws) (LL.copy T.the-type T′.the-copy 𝓤 H A W) (s .now) (s .ptr .0) (s .ptr .1) (λ q′.
           move ! (12 ∷ 13 ∷ 6 ∷ []) $
           opens-slice ! tt u32 (t .now) (t .ptr .0) (t .ptr .1) $
-          rewrite ! 0 (λ (l : List ℕ). ‵ (row u32 fullShare l (t .ptr .0) (t .ptr .1))) (sym (filled-none offsetOf (s .now) (t .now))) refl $
+          rewrite ! 0 (λ (l : List ℕ). ‵ (row u32 fullShare l (t .ptr .0) (t .ptr .1))) (sym (filled-none rowOffset (s .now) (t .now))) refl $
           move ! (13 ∷ 14 ∷ 9 ∷ []) $
           opens-slice ! tt u32 (u .now) (u .ptr .0) (u .ptr .1) $
-          rewrite ! 0 (λ (l : List ℕ). ‵ (row u32 fullShare l (u .ptr .0) (u .ptr .1))) (sym (filled-none labelOf (s .now) (u .now))) refl $
+          rewrite ! 0 (λ (l : List ℕ). ‵ (row u32 fullShare l (u .ptr .0) (u .ptr .1))) (sym (filled-none rowLabel (s .now) (u .now))) refl $
           move ! (13 ∷ 14 ∷ 11 ∷ []) $
           opens-slice ! tt u8 (w .now) (w .ptr .0) (w .ptr .1) $
-          rewrite ! 0 (λ (l : List ℕ). ‵ (row u8 fullShare l (w .ptr .0) (w .ptr .1))) (sym (filled-none weakOf (s .now) (w .now))) refl $
+          rewrite ! 0 (λ (l : List ℕ). ‵ (row u8 fullShare l (w .ptr .0) (w .ptr .1))) (sym (filled-none rowWeak (s .now) (w .now))) refl $
           fltI ! 0 (suc ρ) (omega arith) $
           first ! $ blocks ! $
           keep ! (0 ∷ 13 ∷ 9 ∷ 5 ∷ 1 ∷ 57 ∷ 55 ∷ 53 ∷ 51 ∷ 49 ∷ 47 ∷ 45 ∷ 43 ∷ 41 ∷ 39 ∷ 37 ∷ 35 ∷ 33 ∷ 31 ∷ 29 ∷ 27 ∷ 25 ∷ 23 ∷ 21 ∷ 19 ∷ 65 ∷ 63 ∷ 61 ∷ 59 ∷ 67 ∷ 14 ∷ 15 ∷ 18 ∷ 10 ∷ 11 ∷ 12 ∷ 6 ∷ 7 ∷ 8 ∷ 2 ∷ 3 ∷ 4

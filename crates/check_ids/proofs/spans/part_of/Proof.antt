@@ -2,7 +2,7 @@
 use mathlib.Core.Path.{_∙_, sym}
 use native.Mathlib.Nat.{add-zero}
 use borrow.Author.Tests.{ne-eqb}
-use Rattle.check_ids.specs.Spans.{slotsOf, partOf}
+use Rattle.check_ids.specs.Spans.{slotsOf, partLength}
 use Rattle.check_ids.proofs.Parted.{part-array}
 use borrow.Author.Needs.{needs}
 use Rattle.check_ids.proofs.spans.part_of.Statement.{statement}
@@ -14,7 +14,7 @@ returns c =
     part-array (a .kind) (a .class) (a .len) (a .slot-starts .now) (a .slot-ends .now) (c .if1 .taken)
 
 returns-2 : tie.Need-returns-2
-unfolding partOf
+unfolding partLength
 returns-2 c =
     let a = c .before .before .before .before .args in
     rw (ne-eqb _ _ (c .before .if1 .left)) (c .slots-of .ensures ∙ sym (add-zero (slotsOf (a .kind) (a .class) (a .slot-starts .now) (a .slot-ends .now))))

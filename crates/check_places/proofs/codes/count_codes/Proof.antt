@@ -6,13 +6,13 @@ use native.Mathlib.Omega.{arith}
 use lib.Dec.{eqb}
 use Rattle.columns.specs.Lists.{_!_, total}
 use Rattle.columns.proofs.Sums.{total-more, total-end, one-few}
-use Rattle.check_places.specs.Placing.{codeAt}
+use Rattle.check_places.specs.Placing.{oneCode}
 use borrow.Author.Needs.{needs}
 use Rattle.check_places.proofs.codes.count_codes.Statement.{statement}
 use Rattle.check_places.proofs.codes.count_codes.Tie as tie
 
 abbrev Inv-loop : tie.InvT-loop
-Inv-loop codes start n sum₀ k₀ sum k = (k ≤ n) × (sum ≡ total (codeAt codes start) k) × (sum ≤ k)
+Inv-loop codes start n sum₀ k₀ sum k = (k ≤ n) × (sum ≡ total (oneCode codes start) k) × (sum ≤ k)
 
 abbrev μ-loop : tie.MeasureT-loop
 μ-loop codes start n sum₀ k₀ sum k = n - k
@@ -29,12 +29,12 @@ add-sum c = omega (arith, small c, c .before .before .before .loop .inv .2, c .b
 loop-again : tie.Need-loop-again Inv-loop μ-loop
 loop-again c =
     let a = c .before .before .before .before .before .args in
-    (omega (arith, c .before .before .loop-test .taken), total-more (codeAt (a .codes .now) (a .start)) (c .before .before .before .loop .k) (c .before .before .before .loop .inv .1) (c .one-code .ensures), omega (arith, small c, c .before .before .before .loop .inv .2))
+    (omega (arith, c .before .before .loop-test .taken), total-more (oneCode (a .codes .now) (a .start)) (c .before .before .before .loop .k) (c .before .before .before .loop .inv .1) (c .one-code .ensures), omega (arith, small c, c .before .before .before .loop .inv .2))
 
 returns : tie.Need-returns Inv-loop μ-loop
 returns c =
     let a = c .before .before .before .args in
-    (total-end (codeAt (a .codes .now) (a .start)) (c .before .loop .inv .1) (c .before .loop .inv .0) (c .loop-test .left), omega (arith, c .before .loop .inv .2, c .before .loop .inv .0))
+    (total-end (oneCode (a .codes .now) (a .start)) (c .before .loop .inv .1) (c .before .loop .inv .0) (c .loop-test .left), omega (arith, c .before .loop .inv .2, c .before .loop .inv .0))
 
 pub count-codes-spec : {M : Type 1} → statement M
 count-codes-spec =

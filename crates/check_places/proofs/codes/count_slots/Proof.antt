@@ -5,13 +5,13 @@ use native.Mathlib.Omega.{arith}
 use lib.Dec.{eqb}
 use Rattle.columns.specs.Lists.{_!_, total}
 use Rattle.columns.proofs.Sums.{total-more, total-end, one-few}
-use Rattle.check_places.specs.Placing.{slotHeld, slotAt}
+use Rattle.check_places.specs.Placing.{slotHeld, oneSlot}
 use borrow.Author.Needs.{needs}
 use Rattle.check_places.proofs.codes.count_slots.Statement.{statement}
 use Rattle.check_places.proofs.codes.count_slots.Tie as tie
 
 abbrev Inv-loop : tie.InvT-loop
-Inv-loop codes slot-weak kept start first n sum₀ k₀ sum k = (k ≤ n) × (sum ≡ total (slotAt codes slot-weak kept start first) k) × (sum ≤ k)
+Inv-loop codes slot-weak kept start first n sum₀ k₀ sum k = (k ≤ n) × (sum ≡ total (oneSlot codes slot-weak kept start first) k) × (sum ≤ k)
 
 abbrev μ-loop : tie.MeasureT-loop
 μ-loop codes slot-weak kept start first n sum₀ k₀ sum k = n - k
@@ -35,7 +35,7 @@ loop-again c =
     let s = l .before .before .before in
     let a = s .args in (
       omega (arith, i .loop-test .taken),
-      total-more (slotAt (a .codes .now) (a .slot-weak .now) (a .kept) (a .start) (a .first)) (l .loop .k) (l .loop .inv .1)
+      total-more (oneSlot (a .codes .now) (a .slot-weak .now) (a .kept) (a .start) (a .first)) (l .loop .k) (l .loop .inv .1)
           (c .one-slot .ensures),
       omega (arith, small c, l .loop .inv .2),
     )
@@ -43,7 +43,7 @@ loop-again c =
 returns : tie.Need-returns Inv-loop μ-loop
 returns c =
     let a = c .before .before .before .before .args in
-    (total-end (slotAt (a .codes .now) (a .slot-weak .now) (a .kept) (a .start) (a .first)) (c .before .loop .inv .1) (c .before .loop .inv .0) (c .loop-test .left), omega (arith, c .before .loop .inv .2, c .before .loop .inv .0))
+    (total-end (oneSlot (a .codes .now) (a .slot-weak .now) (a .kept) (a .start) (a .first)) (c .before .loop .inv .1) (c .before .loop .inv .0) (c .loop-test .left), omega (arith, c .before .loop .inv .2, c .before .loop .inv .0))
 
 pub count-slots-spec : {M : Type 1} → statement M
 count-slots-spec =

@@ -5,7 +5,7 @@ use Prim.Native.Nat.{_+_, _-_, _≤_, _<_, zero-le}
 use native.Mathlib.Omega.{arith}
 use lib.ListN.{length}
 use Rattle.columns.specs.Lists.{_!_, total}
-use Rattle.check_places.specs.Placing.{codeAt, codesIn}
+use Rattle.check_places.specs.Placing.{oneCode, codesIn}
 use Rattle.check_places.proofs.Bound.{part-empty, part-behind, part-span, parts-end}
 use borrow.Author.Needs.{needs}
 use Rattle.check_places.proofs.fit.in_order.Statement.{statement}
@@ -13,7 +13,7 @@ use Rattle.check_places.proofs.fit.in_order.Tie as tie
 
 abbrev Inv-loop : tie.InvT-loop
 Inv-loop kinds classes lengths slot-starts slot-ends codes starts end₀ o₀ end o =
-    (o ≤ length kinds) × (end ≤ length codes) × (total (codesIn kinds classes lengths slot-starts slot-ends codes starts) o ≤ total (codeAt codes 0) end)
+    (o ≤ length kinds) × (end ≤ length codes) × (total (codesIn kinds classes lengths slot-starts slot-ends codes starts) o ≤ total (oneCode codes 0) end)
 
 abbrev μ-loop : tie.MeasureT-loop
 μ-loop kinds classes lengths slot-starts slot-ends codes starts end₀ o₀ end o = length kinds - o

@@ -6,13 +6,13 @@ use native.Mathlib.Omega.{arith}
 use lib.ListN.{length}
 use Rattle.columns.specs.Lists.{_!_, one, total}
 use Rattle.columns.proofs.Sums.{total-more, one-few}
-use Rattle.check_places.specs.Placing.{staticHeld, staticAt}
+use Rattle.check_places.specs.Placing.{staticHeld, oneStatic}
 use borrow.Author.Needs.{needs}
 use Rattle.check_places.proofs.statics.count_statics.Statement.{statement}
 use Rattle.check_places.proofs.statics.count_statics.Tie as tie
 
 abbrev Inv-loop : tie.InvT-loop
-Inv-loop ids static-types static-values from to every sum₀ i₀ sum i = (from ≤ i) × (i ≤ to) × (sum ≡ total (staticAt every ids static-types static-values from) (i - from)) × (sum ≤ i - from)
+Inv-loop ids static-types static-values from to every sum₀ i₀ sum i = (from ≤ i) × (i ≤ to) × (sum ≡ total (oneStatic every ids static-types static-values from) (i - from)) × (sum ≤ i - from)
 
 abbrev μ-loop : tie.MeasureT-loop
 μ-loop ids static-types static-values from to every sum₀ i₀ sum i = to - i
@@ -47,7 +47,7 @@ loop-again c =
     let a = s2 .args in
     let e : l .loop .i + 1 - a .from ≡ l .loop .i - a .from + 1 = omega (arith, l .loop .inv .0) in
     let p : a .from + (l .loop .i - a .from) ≡ l .loop .i = omega (arith, l .loop .inv .0) in
-    let s = total-more (staticAt (a .every) (a .ids .now) (a .static-types .now) (a .static-values .now) (a .from)) (l .loop .i - a .from) (l .loop .inv .2)
+    let s = total-more (oneStatic (a .every) (a .ids .now) (a .static-types .now) (a .static-values .now) (a .from)) (l .loop .i - a .from) (l .loop .inv .2)
     (c .one-static .ensures ∙ ap (λ (k : ℕ). one (staticHeld (a .every) (a .ids .now) (a .static-types .now ! k) (a .static-values .now ! k))) (sym p)) in
     (omega (arith, l .loop .inv .0), omega (arith, i .loop-test .taken), rw e s, omega (arith, small c, l .loop .inv .0, l .loop .inv .3))
 

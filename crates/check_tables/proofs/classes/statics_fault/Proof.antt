@@ -4,13 +4,13 @@ use Prim.Native.Nat.{ℕ, _+_, _-_}
 use native.Mathlib.Omega.{arith}
 use Rattle.columns.specs.Lists.{_!_}
 use Rattle.columns.proofs.First.{Passing, passing-start, passing-more, passing-hit, passing-end}
-use Rattle.check_tables.specs.Reads.{staticAt, staticFault}
+use Rattle.check_tables.specs.Reads.{staticFaultAt, staticFault}
 use borrow.Author.Needs.{needs}
 use Rattle.check_tables.proofs.classes.statics_fault.Statement.{statement}
 use Rattle.check_tables.proofs.classes.statics_fault.Tie as tie
 
 abbrev Inv-loop : tie.InvT-loop
-Inv-loop static-names static-types names from to i₀ i = Passing (staticAt static-names static-types names from) from to i
+Inv-loop static-names static-types names from to i₀ i = Passing (staticFaultAt static-names static-types names from) from to i
 
 abbrev μ-loop : tie.MeasureT-loop
 μ-loop static-names static-types names from to i₀ i = to - i

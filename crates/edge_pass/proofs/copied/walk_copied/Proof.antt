@@ -9,7 +9,7 @@ use Rattle.edge_append.specs.Object.{copiedPartsOf}
 use Rattle.rules.specs.Tables.{objectTable, staticTable, copiedRoute}
 use Rattle.edge_pass.specs.Tables.{passClasses, passSlots, passInput}
 use Rattle.edge_pass.specs.Walk.{Walked}
-use Rattle.edge_pass.specs.Range.{partsOf, partsFrom}
+use Rattle.edge_pass.specs.Range.{refPartsOf, partsFrom}
 use Rattle.edge_pass.proofs.Walks.{walk-none}
 use Rattle.edge_pass.proofs.Steps.{walked-targets, walked-labels, walked-objects, walked-weak, walked-working, walk-end, object-now, ready-now, step-more}
 use Rattle.edge_pass.proofs.copied.walk_copied.Statement.{statement}
@@ -81,7 +81,7 @@ add-step-copied c =
     omega (arith, begun l .pre .1 .0 .objects (l .loop .k) (c .before .before .before .loop-test .taken) .few)
 
 step-copied-requires : tie.Need-step-copied-requires Inv-loop μ-loop
-unfolding partsOf copiedPartsOf
+unfolding refPartsOf copiedPartsOf
 step-copied-requires c κs =
     let i = c .before .before .before .before .before .before .before .before .before in
     let l = i .before in
@@ -99,7 +99,7 @@ loop-less c =
     omega (arith, c .before .before .before .before .before .before .before .before .before .before .before .before .before .before .before .before .before .before .before .before .loop-test .taken)
 
 loop-again : tie.Need-loop-again Inv-loop μ-loop
-unfolding partsOf copiedPartsOf
+unfolding refPartsOf copiedPartsOf
 loop-again c =
     let s = c .before .before .before .before .before .before .before .before .before .before in
     let i = s .before .before .before .before .before .before .before .before .before .before in

@@ -9,7 +9,7 @@ use Rattle.edge_append.specs.Object.{rawPartsOf}
 use Rattle.rules.specs.Tables.{objectTable, slotTable, staticTable, rawRoute}
 use Rattle.edge_pass.specs.Tables.{passClasses, passInput}
 use Rattle.edge_pass.specs.Walk.{Walked}
-use Rattle.edge_pass.specs.Range.{partsOf, partsFrom}
+use Rattle.edge_pass.specs.Range.{refPartsOf, partsFrom}
 use Rattle.edge_pass.proofs.Walks.{walk-none}
 use Rattle.edge_pass.proofs.Steps.{walked-targets, walked-labels, walked-objects, walked-weak, walked-working, walk-end, object-now, ready-now, step-more}
 use Rattle.edge_pass.proofs.raw.walk_raw.Statement.{statement}
@@ -70,7 +70,7 @@ add-step-raw : tie.Need-add-step-raw Inv-loop μ-loop
 add-step-raw c = omega (arith, begun (c .before) .pre .0 .objects (c .before .loop .k) (c .loop-test .taken) .few)
 
 step-raw-requires : tie.Need-step-raw-requires Inv-loop μ-loop
-unfolding partsOf rawPartsOf
+unfolding refPartsOf rawPartsOf
 step-raw-requires c κs =
     let i = c .before .before .before .before .before .before in
     let l = i .before in
@@ -88,7 +88,7 @@ loop-less c =
     omega (arith, c .before .before .before .before .before .before .before .before .before .before .before .before .before .before .before .before .before .loop-test .taken)
 
 loop-again : tie.Need-loop-again Inv-loop μ-loop
-unfolding partsOf rawPartsOf
+unfolding refPartsOf rawPartsOf
 loop-again c =
     let s = c .before .before .before .before .before .before .before .before .before .before in
     let i = s .before .before .before .before .before .before .before in

@@ -9,14 +9,14 @@ use lib.ListN.{length}
 use Rattle.columns.specs.Lists.{_!_, tab, places}
 use Rattle.columns.proofs.Lists.{places-row}
 use Rattle.columns.proofs.Written.{Written, written-none, written-tab, written-hit, written-miss, written-end}
-use Rattle.index.specs.Copied.{codeOf, codesTo, isEscape, escapesTo, escapedTo, escapeRows}
+use Rattle.index.specs.Copied.{codeOf, codesTo, isEscape, escapesTo, escapeIdsTo, escapeRows}
 use borrow.Author.Needs.{needs}
 use Rattle.index.proofs.code.write.Statement.{statement}
 use Rattle.index.proofs.code.write.Tie as tie
 
 abbrev Inv-loop : tie.InvT-loop
 Inv-loop ids base codes₀ places₀ escaped₀ k₀ i₀ codes places escaped k i =
-    (i ≤ length ids) × Written (codesTo base ids i) codes₀ codes i × Written (escapesTo base ids i) places₀ places k × Written (escapedTo base ids i) escaped₀ escaped k
+    (i ≤ length ids) × Written (codesTo base ids i) codes₀ codes i × Written (escapesTo base ids i) places₀ places k × Written (escapeIdsTo base ids i) escaped₀ escaped k
 
 abbrev μ-loop : tie.MeasureT-loop
 μ-loop ids base codes₀ places₀ escaped₀ k₀ i₀ codes places escaped k i = length ids - i
@@ -83,7 +83,7 @@ returns c =
     let w = c .before .loop .inv in
     let ids = a .ids .now in
     let e : c .before .loop .i ≡ length ids = omega arith in
-    record { codes = written-end (codesTo (a .base) ids) (length ids) (w .1) e; places = written-end (escapesTo (a .base) ids) (length ids) (w .2) e; escaped = written-end (escapedTo (a .base) ids) (length ids) (w .3) e }
+    record { codes = written-end (codesTo (a .base) ids) (length ids) (w .1) e; places = written-end (escapesTo (a .base) ids) (length ids) (w .2) e; escaped = written-end (escapeIdsTo (a .base) ids) (length ids) (w .3) e }
 
 pub write-spec : {M : Type 1} → statement M
 write-spec =

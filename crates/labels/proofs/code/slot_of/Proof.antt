@@ -2,24 +2,24 @@
 use Prim.Native.Nat.{_≤_, _<_}
 use native.Mathlib.Omega.{arith}
 use borrow.Author.Tests.{eq-eqb, ne-eqb, lt-ltb, le-ltb}
-use Rattle.labels.specs.Coding.{slotOf}
+use Rattle.labels.specs.Coding.{tablePlace}
 use borrow.Author.Needs.{needs}
 use Rattle.labels.proofs.code.slot_of.Statement.{statement}
 use Rattle.labels.proofs.code.slot_of.Tie as tie
 
 returns : tie.Need-returns
-unfolding slotOf
+unfolding tablePlace
 returns c = simp (eq-eqb _ _ (c .if1 .taken))
 
 returns-2 : tie.Need-returns-2
-unfolding slotOf
+unfolding tablePlace
 returns-2 c =
     let a = c .before .before .before .args in
     let l : a .label < a .names = omega arith in
     simp (ne-eqb _ _ (c .before .before .if1 .left), lt-ltb _ _ l) (c .before .index .ensures)
 
 returns-3 : tie.Need-returns-3
-unfolding slotOf
+unfolding tablePlace
 returns-3 c =
     let a = c .before .before .before .args in
     let l : a .names ≤ a .label = omega arith in

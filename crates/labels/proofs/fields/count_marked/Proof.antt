@@ -6,7 +6,7 @@ use borrow.Author.Tests.{eq-eqb, ne-eqb}
 use lib.ListN.{length, length-map}
 use Rattle.columns.specs.Lists.{places}
 use Rattle.columns.proofs.Lists.{count-hit, count-miss}
-use Rattle.labels.specs.Fields.{labelAt, isMarked, marked}
+use Rattle.labels.specs.Fields.{tableLabel, isMarked, markedLabels}
 use borrow.Author.Needs.{needs}
 use Rattle.labels.proofs.fields.count_marked.Statement.{statement}
 use Rattle.labels.proofs.fields.count_marked.Tie as tie
@@ -30,11 +30,11 @@ loop-again-2 c =
     (search needs, search needs, count-miss (isMarked (c .before .before .before .before .args .table .now)) (c .before .before .before .loop .i) (c .before .before .before .loop .inv .2) (ne-eqb _ _ (c .if1 .left)))
 
 returns : tie.Need-returns Inv-loop μ-loop
-unfolding marked
+unfolding markedLabels
 returns c =
     let a = c .before .before .args in
     let e : c .before .loop .i ≡ a .names + 1 = omega arith in
-    c .before .loop .inv .2 ∙ ap (λ (n : ℕ). length (places (isMarked (a .table .now)) n)) e ∙ sym (length-map (places (isMarked (a .table .now)) (a .names + 1)) (labelAt (a .names)))
+    c .before .loop .inv .2 ∙ ap (λ (n : ℕ). length (places (isMarked (a .table .now)) n)) e ∙ sym (length-map (places (isMarked (a .table .now)) (a .names + 1)) (tableLabel (a .names)))
 
 pub count-marked-spec : {M : Type 1} → statement M
 count-marked-spec =

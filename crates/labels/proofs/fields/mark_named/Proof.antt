@@ -5,7 +5,7 @@ use Prim.Native.Nat.{ℕ, _≤_, _-_}
 use native.Mathlib.Omega.{arith}
 use lib.ListN.{length}
 use Rattle.columns.specs.Lists.{_!_}
-use Rattle.labels.specs.Fields.{marks, slotsNamed, staticsNamed, naming, namedBy}
+use Rattle.labels.specs.Fields.{markLabels, slotsNamed, staticsNamed, naming, namedBy}
 use Rattle.labels.proofs.Marks.{Marking, marking-none, marking-more, marking-end, named-more}
 use borrow.Author.Needs.{needs}
 use Rattle.labels.proofs.fields.mark_named.Statement.{statement}
@@ -80,7 +80,7 @@ returns c =
     let a = c .before .before .before .before .before .before .before .before .before .before .before .before .before .before .args in
     let e : c .before .loop .c ≡ a .classes = omega arith in
     let s = naming (a .slot-starts .now) (a .slot-ends .now) (a .static-starts .now) (a .static-ends .now) (a .slot-labels .now) (a .static-names .now) (a .static-types .now) in
-    marking-end (namedBy s) (a .classes) (c .before .loop .inv .1) e ∙ ap (λ (t : List ℕ). marks (a .names) t (namedBy s (a .classes))) (c .before .before .before .before .mark .ensures)
+    marking-end (namedBy s) (a .classes) (c .before .loop .inv .1) e ∙ ap (λ (t : List ℕ). markLabels (a .names) t (namedBy s (a .classes))) (c .before .before .before .before .mark .ensures)
 
 pub mark-named-spec : {M : Type 1} → statement M
 mark-named-spec =
