@@ -2,6 +2,7 @@
 use crate::case::Numbers;
 use crate::edges;
 use crate::lists;
+use case_text::lists::of_u32;
 use rules::Counts;
 use rules::Field;
 use rules::LabelOf;
@@ -274,7 +275,7 @@ fn asked<'a>(
         count,
     );
     field_answers(
-        lists::of_u32(halves, cuts, lists::FIELD),
+        of_u32(halves, cuts, lists::FIELD),
         targets,
         bases,
         short,
@@ -287,7 +288,7 @@ fn asked<'a>(
         codes,
     );
     referent_answers(
-        lists::of_u32(halves, cuts, lists::REFERENT),
+        of_u32(halves, cuts, lists::REFERENT),
         targets,
         weak_from,
         weak_to,
@@ -302,7 +303,7 @@ fn asked<'a>(
         codes,
     );
     label_answers(
-        lists::of_u32(halves, cuts, lists::LABEL_OF),
+        of_u32(halves, cuts, lists::LABEL_OF),
         targets,
         bases,
         short,

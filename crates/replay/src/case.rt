@@ -1,8 +1,10 @@
 // The numbers of a case beside its columns, and whether its lists are such that it can be built.
-use crate::arrays;
-use crate::fault::Fault;
 use crate::lists;
 use crate::rooms;
+use case_text::arrays;
+use case_text::fault::Fault;
+use case_text::lists::of_u32;
+use case_text::lists::of_u64;
 use rules::ReferencePolicy;
 
 pub(crate) struct Numbers {
@@ -34,8 +36,8 @@ fn number(xs: &[u64], k: usize) -> u64 {
 }
 
 pub(crate) fn numbers_of<'a>(words: &'a [u64], cuts: &'a [usize]) -> Numbers {
-    let own = lists::of_u64(words, cuts, lists::NUMBERS);
-    let ids = lists::of_u64(words, cuts, lists::IDS);
+    let own = of_u64(words, cuts, lists::NUMBERS);
+    let ids = of_u64(words, cuts, lists::IDS);
     Numbers {
         raw: number(own, 0) == 1,
         soft: number(own, 1) == 1,
@@ -99,7 +101,7 @@ fn sound_rooms(asked: &[u64]) -> bool {
 
 // A set of rooms.
 pub(crate) fn rooms_of<'a>(words: &'a [u64], cuts: &'a [usize], set: usize) -> &'a [u64] {
-    let all = lists::of_u64(words, cuts, lists::ROOMS);
+    let all = of_u64(words, cuts, lists::ROOMS);
     if all.len() / 17 <= set {
         return &all[0..0];
     }
@@ -108,7 +110,7 @@ pub(crate) fn rooms_of<'a>(words: &'a [u64], cuts: &'a [usize], set: usize) -> &
 }
 
 pub(crate) fn sets_of<'a>(words: &'a [u64], cuts: &'a [usize]) -> usize {
-    lists::of_u64(words, cuts, lists::ROOMS).len() / 17
+    of_u64(words, cuts, lists::ROOMS).len() / 17
 }
 
 pub(crate) fn with_set(mut n: Numbers, set: usize) -> Numbers {
@@ -121,19 +123,19 @@ fn pairs(xs: &[u32]) -> bool {
 }
 
 pub(crate) fn soundness<'a>(halves: &'a [u32], words: &'a [u64], cuts: &'a [usize]) -> Sound {
-    if !sound_numbers(lists::of_u64(words, cuts, lists::NUMBERS)) {
+    if !sound_numbers(of_u64(words, cuts, lists::NUMBERS)) {
         return Sound::No(Fault::WrongNumbers);
     }
-    if !sound_rooms(lists::of_u64(words, cuts, lists::ROOMS)) {
+    if !sound_rooms(of_u64(words, cuts, lists::ROOMS)) {
         return Sound::No(Fault::WrongRooms);
     }
-    if !pairs(lists::of_u32(halves, cuts, lists::FIELD)) {
+    if !pairs(of_u32(halves, cuts, lists::FIELD)) {
         return Sound::No(Fault::OddQuestions);
     }
-    if !pairs(lists::of_u32(halves, cuts, lists::REFERENT)) {
+    if !pairs(of_u32(halves, cuts, lists::REFERENT)) {
         return Sound::No(Fault::OddQuestions);
     }
-    if !pairs(lists::of_u32(halves, cuts, lists::LABEL_OF)) {
+    if !pairs(of_u32(halves, cuts, lists::LABEL_OF)) {
         return Sound::No(Fault::OddQuestions);
     }
     Sound::Yes

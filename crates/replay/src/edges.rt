@@ -1,6 +1,6 @@
 // The line of an object: its span, its edges by the reader of the coded columns, and its weak targets.
-use crate::column;
 use ask_edges::NextEdge;
+use case_text::column;
 use rules::Label;
 use rules::Span;
 use rules::WeakReferents;

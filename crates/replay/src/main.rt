@@ -6,20 +6,19 @@
 // used part, then each object's span, edges and weak targets, and the answers; of a refusal its number and place, and whether all that was lent is zero.
 // A text that is malformed is told with the place, and nothing more is built.
 mod answers;
-mod arrays;
 mod case;
-mod column;
 mod edges;
-mod fault;
 mod lists;
 mod rooms;
 mod routes;
 mod show;
-mod text;
 
 use crate::case::Sound;
-use crate::fault::Fault;
-use crate::lists::Listed;
+use case_text::arrays;
+use case_text::fault;
+use case_text::fault::Fault;
+use case_text::lists::Listed;
+use case_text::text;
 use libc::STDIN_FILENO;
 
 // A title as the text has it.

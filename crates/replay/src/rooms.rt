@@ -1,35 +1,16 @@
 // The columns that a case is built in: fixed arrays full of nines, of which the case's rooms are lent. They are made in three steps, so that no function has them all.
-use crate::arrays;
-use crate::arrays::EDGES;
-use crate::arrays::NAMED;
 use crate::case;
 use crate::case::Numbers;
-use crate::column;
 use crate::routes;
-ghost use Prim.Native.Nat.{_≤_};
+use case_text::arrays;
+use case_text::arrays::EDGES;
+use case_text::arrays::NAMED;
+use case_text::arrays::room;
+use case_text::column;
 
 pub(crate) const ROWS: usize = 4000;
 
 pub(crate) const BLOCKS: usize = 1000;
-
-// Room k of a case, `most` at most. A case that asks for more has been refused before.
-fn room(rooms: &[u64], k: usize, most: usize) -> usize
-    ensures { λ r. ⌜ r ≤ most ⌝ }
-{
-    if rooms.len() <= k {
-        return 0;
-    }
-    least(rooms[k], most)
-}
-
-fn least(asked: u64, most: usize) -> usize
-    ensures { λ r. ⌜ r ≤ most ⌝ }
-{
-    if (most as u64) < asked {
-        return most;
-    }
-    asked as usize
-}
 
 // The columns of the codes, behind all others.
 fn of_codes<'a>(

@@ -1,7 +1,7 @@
 // What is written of a build: the counts, the account, every column lent, and the answers; or the refusal, and whether all that was lent is zero.
 use crate::answers;
 use crate::case::Numbers;
-use crate::column;
+use case_text::column;
 use rules::Built;
 use rules::Counts;
 use rules::Refusal;

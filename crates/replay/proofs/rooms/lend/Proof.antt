@@ -1,5 +1,5 @@
 -- `replay::rooms::lend` is safe and ends. Each room is within its array, and the columns keep their lengths. Assumes nothing.
-use Rattle.replay.proofs.Taken.{front, taken}
+use Rattle.case_text.proofs.Taken.{front, taken}
 use borrow.Author.Needs.{needs}
 use Rattle.replay.proofs.rooms.lend.Statement.{statement}
 use Rattle.replay.proofs.rooms.lend.Tie as tie

@@ -1,5 +1,5 @@
 -- `replay::rooms::of_offsets` is safe and ends. Each room is within its array, and the columns keep their lengths. Assumes nothing.
-use Rattle.replay.proofs.Taken.{front, taken}
+use Rattle.case_text.proofs.Taken.{front, taken}
 use borrow.Author.Needs.{needs}
 use Rattle.replay.proofs.rooms.of_offsets.Statement.{statement}
 use Rattle.replay.proofs.rooms.of_offsets.Tie as tie
@@ -17,28 +17,35 @@ slice-aggregate-of-codes-4 : tie.Need-slice-aggregate-of-codes-4
 slice-aggregate-of-codes-4 c = taken _ 4000 9 (c .before .before .before .before .before .before .before .before .before .before .before .before .before .before .before .room4 .ensures)
 
 slice-aggregate-of-codes-5 : tie.Need-slice-aggregate-of-codes-5
-slice-aggregate-of-codes-5 c = front _ 40000 _ (c .before .before .before .before .before .before .before .before .before .before .before .before .before .named-u32 .ensures) (c .before .before .before .before .before .before .before .before .before .before .before .before .before .before .before .room5 .ensures)
+slice-aggregate-of-codes-5 c = front _ 40002 _ (c .before .before .before .before .before .before .before .before .before .before .before .before .before .named-u32 .ensures) (c .before .before .before .before .before .before .before .before .before .before .before .before .before .before .before .room5 .ensures)
 
 slice-aggregate-of-codes-6 : tie.Need-slice-aggregate-of-codes-6
-slice-aggregate-of-codes-6 c = front _ 40000 _ (c .before .before .before .before .before .before .before .before .before .before .before .before .before .named-u16 .ensures) (c .before .before .before .before .before .before .before .before .before .before .before .before .before .before .before .room6 .ensures)
+slice-aggregate-of-codes-6 c = front _ 40002 _ (c .before .before .before .before .before .before .before .before .before .before .before .before .before .named-u16 .ensures) (c .before .before .before .before .before .before .before .before .before .before .before .before .before .before .before .room6 .ensures)
+
+-- where `of_codes` has answered
+abbrev at-of-codes : tie.After-table2 → tie.After-of-codes
+at-of-codes c =
+    c
+    .before .before .before .before .before .before .before .before .before .before
+    .before .before .before .before .before .before .before .before
 
 same-length : tie.Need-same-length
-same-length c = c .before .before .before .before .before .before .before .before .before .before .before .before .before .before .before .before .before .before .of-codes .kept .1 .1 .1 .1 .1 .0
+same-length c = at-of-codes c .of-codes .kept .1 .1 .1 .1 .1 .0
 
 same-length-2 : tie.Need-same-length-2
-same-length-2 c = c .before .before .before .before .before .before .before .before .before .before .before .before .before .before .before .before .before .before .of-codes .kept .1 .1 .1 .1 .1 .1 .0
+same-length-2 c = at-of-codes c .of-codes .kept .1 .1 .1 .1 .1 .1 .0
 
 same-length-3 : tie.Need-same-length-3
-same-length-3 c = c .before .before .before .before .before .before .before .before .before .before .before .before .before .before .before .before .before .before .of-codes .kept .1 .1 .1 .1 .1 .1 .1 .0
+same-length-3 c = at-of-codes c .of-codes .kept .1 .1 .1 .1 .1 .1 .1 .0
 
 same-length-4 : tie.Need-same-length-4
-same-length-4 c = c .before .before .before .before .before .before .before .before .before .before .before .before .before .before .before .before .before .before .of-codes .kept .1 .1 .1 .1 .1 .1 .1 .1 .0
+same-length-4 c = at-of-codes c .of-codes .kept .1 .1 .1 .1 .1 .1 .1 .1 .0
 
 same-length-5 : tie.Need-same-length-5
-same-length-5 c = c .before .before .before .before .before .before .before .before .before .before .before .before .before .before .before .before .before .before .of-codes .kept .1 .1 .1 .1 .1 .1 .1 .1 .1 .0
+same-length-5 c = at-of-codes c .of-codes .kept .1 .1 .1 .1 .1 .1 .1 .1 .1 .0
 
 same-length-6 : tie.Need-same-length-6
-same-length-6 c = c .before .before .before .before .before .before .before .before .before .before .before .before .before .before .before .before .before .before .of-codes .kept .1 .1 .1 .1 .1 .1 .1 .1 .1 .1 .0
+same-length-6 c = at-of-codes c .of-codes .kept .1 .1 .1 .1 .1 .1 .1 .1 .1 .1 .0
 
 pub of-offsets-spec : {M : Type 1} → statement M
 of-offsets-spec =

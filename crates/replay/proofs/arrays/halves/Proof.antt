@@ -1,7 +1,0 @@
--- `replay::arrays::halves` makes an array of that length. Assumes nothing.
-use Rattle.replay.proofs.Taken.{whole}
-use Rattle.replay.proofs.arrays.halves.Statement.{statement}
-use Rattle.replay.proofs.arrays.halves.Tie as tie
-
-pub halves-spec : {M : Type 1} → statement M
-halves-spec = tie.close (tie.spec (λ c. whole 200000 0))
