@@ -9,7 +9,7 @@ use Rattle.columns.specs.Lists.{_!_}
 use Rattle.rules.specs.Types.{LOADER, ARRAY-ELEMENT, isElement}
 use Rattle.rules.specs.Input.{Input, Schema, objectCount}
 use Rattle.rules.specs.Edges.{Parts, edgesOf, weakTargets, graph}
-use Rattle.rules.specs.Labels.{Coded, fieldCode, codesFor, coded, coarseLabel, named}
+use Rattle.rules.specs.Labels.{Coded, fieldCode, codesFor, coded, coarseLabel, named, own}
 use Rattle.rules.specs.Needs.{objectsOf, fieldsFor, labelColumns}
 use Rattle.rules.specs.Parts.{degree}
 use Rattle.rules.specs.Questions.{Columns, columnsOf, edgesAt, weakIn, coarse, plainly, labelReads, readsBack, objectsIn, offsetAt, edgesIn}
@@ -19,7 +19,7 @@ use Rattle.rules.proofs.Asked.{offset-back, objects-same, field-plain, referent
 use Rattle.rules.proofs.Codes.{own-at, code-at, coarse-code, read-labels, fields-few}
 use Rattle.rules.proofs.Finished.{labels-few, field-asked, referent-asked, never-12}
 use Rattle.rules.proofs.Laid.{build-meets}
-use Rattle.rules.proofs.Meets.{Meets, own}
+use Rattle.rules.proofs.Meets.{Meets}
 use Rattle.ask_span.proofs.Built.{built, strong}
 use Rattle.ask_field.specs.Sought.{fieldFound, referentFound, OneCode}
 use Rattle.ask_span.proofs.Escapes.{edge-reads}
@@ -96,7 +96,7 @@ module _ (x : Input) (h : Passed x) (o : ℕ) where
   n = objectCount x
 
   pub one-code : o < objectsIn c → readsBack c o ≡ true → OneCode (c .labels) (offsetAt c o) (edgesIn c o)
-  one-code = coded-so (x .schema) (graph x) (build-meets x h) (omega (arith, names-few x h)) (labels-few x h) o
+  one-code = coded-so (x .schema) (graph x) (build-meets x h) (omega (arith, names-few x (h .sound))) (labels-few x h) o
 
   pub field-built : (table : List ℕ) (l : ℕ) → fieldFound (strong c) table o l ≡ plainly n o (0 ∷ fieldIn (edgesOf x o) l)
   unfolding fieldFound

@@ -21,7 +21,6 @@ use Rattle.rules.specs.Verdict.{badCode, badEscape}
 use Rattle.check_tables.proofs.Even.{two-none}
 use Rattle.check_ids.proofs.Walking.{row-within, row-place, row-other, code-fault}
 use Rattle.check_ids.specs.Copying.{hasRow, escapeId, codeFault, walkFaults, escapedCodes, escapeFault, baseFault, isClean}
-use Rattle.check_tables.proofs.Even.{two-none}
 
 -- how often a test holds below i
 pub record Counted (t : ℕ → Bool) (i s : ℕ) : Type 0 where

@@ -8,7 +8,6 @@ use Rattle.columns.proofs.Ranks.{past-end}
 use Rattle.index.specs.Copied.{ESCAPED}
 use Rattle.check_ids.specs.Copying.{escapeFault}
 use Rattle.check_tables.proofs.Even.{two-first, two-second, two-none}
-use Rattle.check_tables.proofs.Even.{two-first, two-second, two-none}
 use borrow.Author.Needs.{needs}
 use Rattle.check_ids.proofs.copied.escape_fault.Statement.{statement}
 use Rattle.check_ids.proofs.copied.escape_fault.Tie as tie
