@@ -4,11 +4,10 @@ ghost use Prim.Native.Nat.{_≤_};
 ghost use lib.ListN.{length};
 ghost use Rattle.columns.specs.Lists.{total};
 ghost use Rattle.columns.specs.Loans.{entry};
+ghost use Rattle.rules.specs.Needs.{Fits};
 ghost use Rattle.check_ids.specs.Copying.{heldCodes};
 ghost use Rattle.check_places.specs.Placing.{partAt, PartTables, ClassTables, CodeTables, rawPlaces, copiedPlaces};
 use check_ids::spans;
-ghost use Rattle.rules.specs.Needs.{Fits};
-use check_tables::spans;
 use rules::ReferencePolicy;
 
 pub mod codes;
