@@ -7,11 +7,11 @@ use mathlib.Core.List.{List}
 use lib.ListN.{length, take}
 use lib.Seq.{take-all}
 use Rattle.columns.proofs.Lists.{lt-or-ge}
-use Rattle.rules.specs.Needs.{Lent}
-use Rattle.rules.specs.Built.{CodedLeft}
+use Rattle.rules.specs.Input.{Schema}
+use Rattle.rules.specs.Edges.{Parts}
 use Rattle.labels.specs.Fields.{Naming}
 use Rattle.code_stages.specs.Stages.{Ready}
-use Rattle.code_columns.specs.Finished.{PartsCoding, Hands, Finished}
+use Rattle.code_columns.specs.Finished.{Hands}
 
 -- as many as there are, or all
 pub take-least : (xs : List ℕ) (a : ℕ) {r : ℕ} → r ≡ min a (length xs) → take r xs ≡ take a xs
@@ -24,6 +24,13 @@ take-least xs a {r} e = go (lt-or-ge a (length xs))
 pub ready-used : {g : Naming} {classes names : ℕ} (xs ys : List ℕ) (r a q b : ℕ) → take r xs ≡ take a xs → take q ys ≡ take b ys → Ready g classes names (take a xs) (take b ys) → Ready g classes names (take r xs) (take q ys)
 ready-used xs ys r a q b e f h = rw (e, f) h
 
-pub coding-used : {g : Naming} {classes names : ℕ} (xs ys : List ℕ) (r a q b : ℕ) {before : List ℕ} {l : Lent} {says : List ℕ} {d : CodedLeft} → take r xs ≡ take a xs → take q ys ≡ take b ys
-    → PartsCoding g classes names (take r xs) (take q ys) before l says d → PartsCoding g classes names (take a xs) (take b ys) before l says d
-coding-used xs ys r a q b e f c = λ s p h. c s p (record { named = h .named; class-count = h .class-count; name-count = h .name-count; laid-out = h .laid-out ∙ sym e; labelled = h .labelled ∙ sym f; told = h .told })
+pub hands-used : {s : Schema} {p : Parts} {before : List ℕ} {g : Naming} {classes names : ℕ} (xs ys : List ℕ) (r a q b : ℕ) → take r xs ≡ take a xs → take q ys ≡ take b ys
+    → Hands s p before g classes names (take a xs) (take b ys) → Hands s p before g classes names (take r xs) (take q ys)
+hands-used xs ys r a q b e f h = record {
+  named = h .named;
+  class-count = h .class-count;
+  name-count = h .name-count;
+  laid-out = h .laid-out ∙ sym e;
+  labelled = h .labelled ∙ sym f;
+  told = h .told;
+}

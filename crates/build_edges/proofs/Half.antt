@@ -109,10 +109,6 @@ pub told-accepts : (x : Input) (p : ℕ) (c : List ℕ) → c ≡ firstOf (fault
 unfolding checkSays accepts
 told-accepts x p c e ok = rw (faults-refuse x .none-met (0 ∷ p ∷ []) (ap accepts (sym e) ∙ ok))
 
-take-over : (xs d : List ℕ) → take (length xs) (over xs d) ≡ xs
-unfolding over
-take-over xs d = take-at xs (drop (length xs) d) (length xs) refl
-
 -- What the stages before the pass say, one after the other: the checks tell a number of places and leave marks, weak pairs and roots are counted, and
 -- then there is room or not.
 pub record Staged (x : Input) (b s : ℕ) (v : Built) (ts₀ ls₀ fs₀ ws₀ rs₀ wk₀ wk₂ rs : List ℕ) : Type 0 where
@@ -203,11 +199,11 @@ module _ {x : Input} {b s : ℕ} {v : Built} {ts₀ ls₀ fs₀ ws₀ rs₀ wk�
       answer = edge-said x (early (length ts₀) (length ls₀) (length fs₀) (length ws₀) (length rs₀) b s (length wk₀)) (g .told) (g .pairs) (g .distinct) (g .tested .answer) (g .tested .fits) (g .weak) roots-are (g .rooms ∙ rw (g .roots-kept, g .working-kept)) pass-answer;
       laid = record {
         targets = λ h. edged .targets (same-accepts h);
-        labels = λ h. ap (take (length (graph x .labels))) (edged .labels (same-accepts h)) ∙ take-over (graph x .labels) ls₀;
+        labels = λ h. begins-over (graph x .labels) ls₀ (edged .labels (same-accepts h));
         weak-from = λ h. edged .objects (same-accepts h);
         weak-to = λ h. edged .weaks (same-accepts h);
         roots = λ h. roots-laid (same-accepts h);
-        offsets = λ h. ap (take (length (graph x .offsets))) (edged .offsets (same-accepts h)) ∙ take-over (graph x .offsets) wk₂;
+        offsets = λ h. begins-over (graph x .offsets) wk₂ (edged .offsets (same-accepts h));
         account = λ h. edged .account (same-accepts h);
       };
     }

@@ -7,7 +7,7 @@ use denote.Ref.{now}
 use Rattle.rules.specs.Types.{builtSays}
 use Rattle.build_rooms.specs.Stages.{kept}
 use Rattle.build.specs.Build.{offsetsUsed, labelsUsed}
-use Rattle.build.proofs.Fronts.{take-least, ready-used, coding-used}
+use Rattle.build.proofs.Fronts.{take-least, ready-used, hands-used}
 use borrow.Author.Needs.{needs}
 use Rattle.build.proofs.code_used.Statement.{statement}
 use Rattle.build.proofs.code_used.Tie as tie
@@ -122,11 +122,12 @@ code-parts-requires c κs = λ ok.
     (offsets-cut l) (labels-cut l) (begun l .pre ok)
 
 returns : tie.Need-returns
-returns c =
+returns c = λ schema parts h.
     let l = at-least c in
     let a = begun l .args in
-    coding-used (now (a .working)) (now (a .labels)) (l .before .before .up-to .result) (a .objects + 1) (l .least .result) (kept 1 (builtSays (a .v)))
-    (offsets-cut l) (labels-cut l) (at-code-parts c .code-parts .ensures)
+    at-code-parts c .code-parts .ensures schema parts
+    (hands-used (now (a .working)) (now (a .labels)) (l .before .before .up-to .result) (a .objects + 1) (l .least .result) (kept 1 (builtSays (a .v)))
+    (offsets-cut l) (labels-cut l) h)
 
 pub code-used-spec : {M : Type 1} → statement M
 code-used-spec =
