@@ -168,7 +168,7 @@ calls! {
         table: &mut [u16],
         escape_at: &mut [u64],
         escape_label: &mut [u32],
-        codes: &mut [u16],
+        edge_codes: &mut [u16],
         counting: &mut [u64],
         ranking: &mut [u64],
         answer: &mut [u64; 9],
