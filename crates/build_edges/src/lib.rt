@@ -38,39 +38,39 @@ fn begin(account: &mut [[u64; 3]; 4])
 // The need of buffer 3, and the roots, of an input that the checks accept.
 fn roots_of(
     c: Checked,
-    roots: &[u32],
     objects: usize,
+    roots: &[u32],
+    roots_out: &mut [u32],
     working: &mut [u64],
-    out: &mut [u32],
 ) -> usize
     requires { ⌜ (accepts (checkedSays c) ≡ true → Below objects (now roots) × (objects ≤ 2 ^ 32) × ClassMarks objects (now working)) ⌝ }
     ensures { λ r. ⌜ (accepts (checkedSays c) ≡ true →
-        Collected (entry roots) objects (entry working) (entry out) r (exit working) (exit out)) ⌝ }
+        Collected (entry roots) objects (entry working) (entry «roots_out») r (exit working) (exit «roots_out»)) ⌝ }
 {
     if !passed(c) {
         return 0;
     }
-    need_roots::collect_roots(roots, objects, working, out)
+    need_roots::collect_roots(objects, roots, roots_out, working)
 }
 
 // The need of buffer 2, of an input that the checks accept; or, where all weak slots have room, their number, and nothing is looked up.
 fn weak_copied(
     c: Checked,
+    weak_from: usize,
+    weak_to: usize,
     ids: &[u64],
     kinds: &[u8],
     classes: &[u32],
-    starts: &[u32],
-    codes: &[u32],
-    escape_places: &[u64],
-    escape_ids: &[u64],
-    base: u64,
     class_kinds: &[u8],
     slot_starts: &[u32],
     slot_ends: &[u32],
     slot_weak: &[u8],
+    codes: &[u32],
+    escape_places: &[u64],
+    escape_ids: &[u64],
+    base: u64,
+    starts: &[u32],
     policy: ReferencePolicy,
-    weak_from: usize,
-    weak_to: usize,
 ) -> usize
     requires { ⌜ (accepts (checkedSays c) ≡ true →
         CopiedAsked (now ids) (now kinds) (now classes) (now starts) (now «class_kinds») (now «slot_starts») (now «slot_ends») (length (now «slot_weak»))) ⌝ }
@@ -99,15 +99,15 @@ fn weak_copied(
         ids,
         kinds,
         classes,
-        starts,
-        codes,
-        escape_places,
-        escape_ids,
-        base,
         class_kinds,
         slot_starts,
         slot_ends,
         slot_weak,
+        codes,
+        escape_places,
+        escape_ids,
+        base,
+        starts,
         policy,
     )
 }
@@ -115,21 +115,21 @@ fn weak_copied(
 // The need of buffer 2, of an input that the checks accept; or, where all weak slots have room, their number, and nothing is looked up.
 fn weak_raw(
     c: Checked,
+    weak_from: usize,
+    weak_to: usize,
     ids: &[u64],
     kinds: &[u8],
     classes: &[u32],
-    starts: &[u64],
-    bodies: &[u32],
-    bytes: &[u8],
-    size: usize,
     class_kinds: &[u8],
     slot_starts: &[u32],
     slot_ends: &[u32],
     slot_offsets: &[u32],
     slot_weak: &[u8],
+    bytes: &[u8],
+    size: usize,
+    starts: &[u64],
+    bodies: &[u32],
     policy: ReferencePolicy,
-    weak_from: usize,
-    weak_to: usize,
 ) -> usize
     requires { ⌜ (accepts (checkedSays c) ≡ true →
         RawAsked (now ids) (now kinds) (now classes) (now starts) (now bodies) (length (now bytes)) size
@@ -158,15 +158,15 @@ fn weak_raw(
         ids,
         kinds,
         classes,
-        starts,
-        bodies,
-        bytes,
-        size,
         class_kinds,
         slot_starts,
         slot_ends,
         slot_offsets,
         slot_weak,
+        bytes,
+        size,
+        starts,
+        bodies,
         policy,
     )
 }
@@ -250,23 +250,23 @@ pub fn lay_copied(
     );
     let w = weak_copied(
         c,
+        weak_from.len(),
+        weak_to.len(),
         ids,
         kinds,
         classes,
-        starts,
-        codes,
-        escape_places,
-        escape_ids,
-        base,
         class_kinds,
         slot_starts,
         slot_ends,
         slot_weak,
+        codes,
+        escape_places,
+        escape_ids,
+        base,
+        starts,
         policy,
-        weak_from.len(),
-        weak_to.len(),
     );
-    let n = roots_of(c, roots, ids.len(), working, roots_out);
+    let n = roots_of(c, ids.len(), roots, roots_out, working);
     let v = build_rooms::first_rooms(
         c,
         w,
@@ -306,11 +306,11 @@ pub fn lay_copied(
         starts,
         policy,
         short,
-        working,
         targets,
         labels,
         weak_from,
         weak_to,
+        working,
         account,
     )
 }
@@ -391,23 +391,23 @@ pub fn lay_raw(
     );
     let w = weak_raw(
         c,
+        weak_from.len(),
+        weak_to.len(),
         ids,
         kinds,
         classes,
-        starts,
-        bodies,
-        bytes,
-        size,
         class_kinds,
         slot_starts,
         slot_ends,
         slot_offsets,
         slot_weak,
+        bytes,
+        size,
+        starts,
+        bodies,
         policy,
-        weak_from.len(),
-        weak_to.len(),
     );
-    let n = roots_of(c, roots, ids.len(), working, roots_out);
+    let n = roots_of(c, ids.len(), roots, roots_out, working);
     let v = build_rooms::first_rooms(
         c,
         w,
@@ -447,11 +447,11 @@ pub fn lay_raw(
         bodies,
         policy,
         short,
-        working,
         targets,
         labels,
         weak_from,
         weak_to,
+        working,
         account,
     )
 }

@@ -12,13 +12,13 @@ use Rattle.rules.specs.Verdict.{badSpan, badPart}
 use Rattle.check_ids.specs.Spans.{slotsOf, partLength, copiedSpanFault, rawSpanFault, copiedSpans, rawSpans}
 
 pub copied-span-fault : (kinds classes lengths starts slotStart slotEnd codes : List ℕ) (o : ℕ)
-    → badSpan (copiedSpans kinds classes lengths starts slotStart slotEnd codes) o
+    → badSpan (copiedSpans kinds classes lengths slotStart slotEnd codes starts) o
     ≡ copiedSpanFault (kinds ! o) (starts ! o) (partLength (kinds ! o) (classes ! o) (lengths ! o) slotStart slotEnd) (length codes)
 unfolding badSpan badPart slotCount elementCount copiedSpanFault partLength slotsOf
 copied-span-fault kinds classes lengths starts slotStart slotEnd codes o = refl
 
 pub raw-span-fault : (kinds lengths starts bodies bytes : List ℕ) (size o : ℕ)
-    → badSpan (rawSpans kinds lengths starts bodies bytes size) o ≡ rawSpanFault (kinds ! o) (lengths ! o) (starts ! o) (bodies ! o) (length bytes) size
+    → badSpan (rawSpans kinds lengths bytes size starts bodies) o ≡ rawSpanFault (kinds ! o) (lengths ! o) (starts ! o) (bodies ! o) (length bytes) size
 unfolding badSpan badPart rawSpanFault
 raw-span-fault kinds lengths starts bodies bytes size o = refl
 

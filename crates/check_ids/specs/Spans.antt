@@ -5,8 +5,9 @@ use mathlib.Core.Bool.{Bool, cond, not}
 use mathlib.Core.List.{List, [], _∷_}
 use lib.Dec.{eqb, ltb}
 use Rattle.columns.specs.Lists.{_!_, allOf, anyOf}
-use Rattle.rules.specs.Input.{Objects, Schema, Route, Route.copied, Route.raw, Input}
-use Rattle.check_tables.specs.Reads.{noSlots, noStatics, noPolicy}
+use Rattle.rules.specs.Input.{Classes, Input}
+use Rattle.rules.specs.Tables.{objectTable, classTable, copiedRoute, rawRoute}
+use Rattle.check_tables.specs.Reads.{own, partInput}
 
 -- how many slots an object has (rule `slotCount`), and ids: `elementCount` more
 unfoldable pub slotsOf : ℕ → ℕ → List ℕ → List ℕ → ℕ
@@ -23,23 +24,12 @@ unfoldable pub rawSpanFault : ℕ → ℕ → ℕ → ℕ → ℕ → ℕ → Bo
 rawSpanFault kind len start body bytes size =
     allOf (ltb kind 2 ∷ anyOf (ltb bytes (start + body) ∷ allOf (eqb kind 1 ∷ not (eqb body (len * size)) ∷ []) ∷ []) ∷ [])
 
-abbrev spanInput : List ℕ → List ℕ → List ℕ → List ℕ → List ℕ → Route → Input
-spanInput kinds classes lengths slotStart slotEnd route = record {
-  objects = record { ids = []; kinds = kinds; classes = classes; lengths = lengths };
-  schema = record {
-    classes = record { ids = []; loaders = []; dumped = []; kinds = []; slotStart = slotStart; slotEnd = slotEnd; staticStart = []; staticEnd = [] };
-    slots = noSlots;
-    statics = noStatics;
-    names = 0;
-  };
-  roots = [];
-  route = route;
-  policy = noPolicy;
-}
+abbrev spanClasses : List ℕ → List ℕ → Classes
+spanClasses slotStart slotEnd = classTable own [] [] [] [] slotStart slotEnd [] []
 
 abbrev pub copiedSpans : List ℕ → List ℕ → List ℕ → List ℕ → List ℕ → List ℕ → List ℕ → Input
-copiedSpans kinds classes lengths starts slotStart slotEnd codes =
-    spanInput kinds classes lengths slotStart slotEnd (copied (record { ids = record { codes = codes; places = []; ids = []; base = 0 }; starts = starts }))
+copiedSpans kinds classes lengths slotStart slotEnd codes starts =
+    partInput (objectTable own [] kinds classes lengths) (spanClasses slotStart slotEnd) (copiedRoute own codes [] [] 0 starts)
 
-abbrev pub rawSpans : List ℕ → List ℕ → List ℕ → List ℕ → List ℕ → ℕ → Input
-rawSpans kinds lengths starts bodies bytes size = spanInput kinds [] lengths [] [] (raw (record { bytes = bytes; size = size; starts = starts; lengths = bodies }))
+abbrev pub rawSpans : List ℕ → List ℕ → List ℕ → ℕ → List ℕ → List ℕ → Input
+rawSpans kinds lengths bytes size starts bodies = partInput (objectTable own [] kinds [] lengths) (spanClasses [] []) (rawRoute own bytes size starts bodies)

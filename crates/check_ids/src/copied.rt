@@ -17,26 +17,26 @@ pub enum Fault {
     Nothing,
 }
 
-fn is_fall(places: &[u64], i: usize) -> bool
-    requires { ⌜ i < length (now places) ⌝ }
-    ensures { λ r. ⌜ r ≡ falls (now (places .entry)) i ⌝ }
+fn is_fall(escape_places: &[u64], i: usize) -> bool
+    requires { ⌜ i < length (now «escape_places») ⌝ }
+    ensures { λ r. ⌜ r ≡ falls (now («escape_places» .entry)) i ⌝ }
 {
     if i == 0 {
         return false;
     }
-    if places[i] <= places[i - 1] {
+    if escape_places[i] <= escape_places[i - 1] {
         return true;
     }
     false
 }
 
 // The first escape that does not rise above the one before it, or the number of escapes.
-fn first_fall(places: &[u64]) -> usize
-    ensures { λ r. ⌜ r ≡ firstPlace (falls (now (places .entry))) (length (now (places .entry))) ⌝ }
+fn first_fall(escape_places: &[u64]) -> usize
+    ensures { λ r. ⌜ r ≡ firstPlace (falls (now («escape_places» .entry))) (length (now («escape_places» .entry))) ⌝ }
 {
     let mut i = 0;
-    while i < places.len() {
-        if is_fall(places, i) {
+    while i < escape_places.len() {
+        if is_fall(escape_places, i) {
             return i;
         }
         i += 1;
@@ -45,25 +45,25 @@ fn first_fall(places: &[u64]) -> usize
 }
 
 // Whether row k is the escape of position p.
-fn has_row(places: &[u64], k: usize, p: usize) -> bool
-    ensures { λ r. ⌜ r ≡ hasRow (now (places .entry)) k p ⌝ }
+fn has_row(escape_places: &[u64], k: usize, p: usize) -> bool
+    ensures { λ r. ⌜ r ≡ hasRow (now («escape_places» .entry)) k p ⌝ }
 {
-    if places.len() <= k {
+    if escape_places.len() <= k {
         return false;
     }
-    if places[k] == p as u64 {
+    if escape_places[k] == p as u64 {
         return true;
     }
     false
 }
 
 // The id of the escape of position p, if row k is that; else 0, which no escape may have.
-fn escape_id(places: &[u64], ids: &[u64], k: usize, p: usize) -> u64
-    requires { ⌜ length (now ids) ≡ length (now places) ⌝ }
-    ensures { λ r. ⌜ r ≡ escapeId (now (places .entry)) (now (ids .entry)) k p ⌝ }
+fn escape_id(escape_places: &[u64], escape_ids: &[u64], k: usize, p: usize) -> u64
+    requires { ⌜ length (now «escape_ids») ≡ length (now «escape_places») ⌝ }
+    ensures { λ r. ⌜ r ≡ escapeId (now («escape_places» .entry)) (now («escape_ids» .entry)) k p ⌝ }
 {
-    if has_row(places, k, p) {
-        return ids[k];
+    if has_row(escape_places, k, p) {
+        return escape_ids[k];
     }
     0
 }
@@ -120,24 +120,28 @@ fn good_on(good: usize, rows: usize, row: bool, code: u32) -> usize
 }
 
 // The first bad code, else the first bad escape, in one walk along both.
-fn first_walk(codes: &[u32], places: &[u64], ids: &[u64], base: u64) -> Fault
-    requires { ⌜ length (now ids) ≡ length (now places) ⌝ }
-    requires { ⌜ Rises (now places) ⌝ }
-    ensures { λ r. ⌜ faultSays r ≡ take 1 (walkFaults (idColumns (now (codes .entry)) (now (places .entry)) (now (ids .entry)) base)) ⌝ }
+fn first_walk(codes: &[u32], escape_places: &[u64], escape_ids: &[u64], base: u64) -> Fault
+    requires { ⌜ length (now «escape_ids») ≡ length (now «escape_places») ⌝ }
+    requires { ⌜ Rises (now «escape_places») ⌝ }
+    ensures { λ r. ⌜ faultSays r ≡ take 1 (walkFaults (idColumns (now (codes .entry)) (now («escape_places» .entry)) (now («escape_ids» .entry)) base)) ⌝ }
 {
     let mut p = 0;
     let mut rows = 0;
     let mut good = 0;
     while p < codes.len() {
-        if code_fault(codes[p], base, escape_id(places, ids, rows, p)) {
+        if code_fault(
+            codes[p],
+            base,
+            escape_id(escape_places, escape_ids, rows, p),
+        ) {
             return Fault::At(p);
         }
-        let row = has_row(places, rows, p);
+        let row = has_row(escape_places, rows, p);
         good = good_on(good, rows, row, codes[p]);
         rows = rows_on(rows, row);
         p += 1;
     }
-    if good < places.len() {
+    if good < escape_places.len() {
         return Fault::At(good);
     }
     Fault::Nothing
@@ -184,32 +188,32 @@ fn count_codes(codes: &[u32]) -> Totals
 }
 
 // Whether escape k has no code or no id.
-fn escape_fault(codes: &[u32], places: &[u64], ids: &[u64], k: usize) -> bool
-    requires { ⌜ k < length (now places) ⌝ }
-    requires { ⌜ length (now ids) ≡ length (now places) ⌝ }
-    ensures { λ r. ⌜ r ≡ escapeFault (now (codes .entry)) (now (places .entry)) (now (ids .entry)) k ⌝ }
+fn escape_fault(codes: &[u32], escape_places: &[u64], escape_ids: &[u64], k: usize) -> bool
+    requires { ⌜ k < length (now «escape_places») ⌝ }
+    requires { ⌜ length (now «escape_ids») ≡ length (now «escape_places») ⌝ }
+    ensures { λ r. ⌜ r ≡ escapeFault (now (codes .entry)) (now («escape_places» .entry)) (now («escape_ids» .entry)) k ⌝ }
 {
-    let p = places[k];
+    let p = escape_places[k];
     if codes.len() as u64 <= p {
         return true;
     }
     if codes[p as usize] != 4294967295 {
         return true;
     }
-    if ids[k] == 0 {
+    if escape_ids[k] == 0 {
         return true;
     }
     false
 }
 
 // The first escape that has no code or no id, or the number of escapes.
-fn first_escape(codes: &[u32], places: &[u64], ids: &[u64]) -> usize
-    requires { ⌜ length (now ids) ≡ length (now places) ⌝ }
-    ensures { λ r. ⌜ r ≡ firstPlace (escapeFault (now (codes .entry)) (now (places .entry)) (now (ids .entry))) (length (now (places .entry))) ⌝ }
+fn first_escape(codes: &[u32], escape_places: &[u64], escape_ids: &[u64]) -> usize
+    requires { ⌜ length (now «escape_ids») ≡ length (now «escape_places») ⌝ }
+    ensures { λ r. ⌜ r ≡ firstPlace (escapeFault (now (codes .entry)) (now («escape_places» .entry)) (now («escape_ids» .entry))) (length (now («escape_places» .entry))) ⌝ }
 {
     let mut k = 0;
-    while k < places.len() {
-        if escape_fault(codes, places, ids, k) {
+    while k < escape_places.len() {
+        if escape_fault(codes, escape_places, escape_ids, k) {
             return k;
         }
         k += 1;
@@ -231,17 +235,23 @@ fn base_fault(base: u64) -> bool
 }
 
 // Whether there is no fault, by a test that is quick and does not look where one is: where it fails, there may be none.
-fn is_clean(codes: &[u32], places: &[u64], ids: &[u64], base: u64, escaped: usize) -> bool
-    requires { ⌜ length (now ids) ≡ length (now places) ⌝ }
-    ensures { λ r. ⌜ r ≡ isClean (idColumns (now (codes .entry)) (now (places .entry)) (now (ids .entry)) base) escaped ⌝ }
+fn is_clean(
+    codes: &[u32],
+    escape_places: &[u64],
+    escape_ids: &[u64],
+    base: u64,
+    escaped: usize,
+) -> bool
+    requires { ⌜ length (now «escape_ids») ≡ length (now «escape_places») ⌝ }
+    ensures { λ r. ⌜ r ≡ isClean (idColumns (now (codes .entry)) (now («escape_places» .entry)) (now («escape_ids» .entry)) base) escaped ⌝ }
 {
-    if escaped != places.len() {
+    if escaped != escape_places.len() {
         return false;
     }
     if base_fault(base) {
         return false;
     }
-    if first_escape(codes, places, ids) < places.len() {
+    if first_escape(codes, escape_places, escape_ids) < escape_places.len() {
         return false;
     }
     true
@@ -255,19 +265,19 @@ pub enum Tested {
 
 // The place of the first fault of copied ids: the first escape not rising, else the first bad code, else the first bad escape.
 // The walk along both is slow, and is left out where the quick test shows that it would find nothing.
-pub fn first_copied(codes: &[u32], places: &[u64], ids: &[u64], base: u64) -> Tested
-    requires { ⌜ length (now ids) ≡ length (now places) ⌝ }
-    ensures { λ r. ⌜ TestedCodes (badCopied (copiedColumns (now (codes .entry)) (now (places .entry)) (now (ids .entry)) base)) (now (codes .entry)) r ⌝ }
+pub fn first_copied(codes: &[u32], escape_places: &[u64], escape_ids: &[u64], base: u64) -> Tested
+    requires { ⌜ length (now «escape_ids») ≡ length (now «escape_places») ⌝ }
+    ensures { λ r. ⌜ TestedCodes (badCopied (copiedColumns (now (codes .entry)) (now («escape_places» .entry)) (now («escape_ids» .entry)) base)) (now (codes .entry)) r ⌝ }
 {
-    let fall = first_fall(places);
-    if fall < places.len() {
+    let fall = first_fall(escape_places);
+    if fall < escape_places.len() {
         return Tested::At(fall);
     }
     let n = count_codes(codes);
-    if is_clean(codes, places, ids, base, n.escaped) {
+    if is_clean(codes, escape_places, escape_ids, base, n.escaped) {
         return Tested::Held(n.held);
     }
-    match first_walk(codes, places, ids, base) {
+    match first_walk(codes, escape_places, escape_ids, base) {
         Fault::At(p) => Tested::At(p),
         Fault::Nothing => Tested::Held(n.held),
     }

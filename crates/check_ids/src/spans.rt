@@ -53,17 +53,17 @@ pub fn first_copied_span(
     kinds: &[u8],
     classes: &[u32],
     lengths: &[u32],
-    starts: &[u32],
     slot_starts: &[u32],
     slot_ends: &[u32],
     codes: &[u32],
+    starts: &[u32],
 ) -> usize
     requires { ⌜ length (now classes) ≡ length (now kinds) ⌝ }
     requires { ⌜ length (now lengths) ≡ length (now kinds) ⌝ }
     requires { ⌜ length (now starts) ≡ length (now kinds) ⌝ }
     requires { ⌜ length (now «slot_ends») ≡ length (now «slot_starts») ⌝ }
-    ensures { λ r. ⌜ r ≡ firstPlace (badSpan (copiedSpans (entry kinds) (entry classes) (entry lengths) (entry starts) (entry «slot_starts») (entry «slot_ends»)
-        (entry codes))) (length (entry kinds)) ⌝ }
+    ensures { λ r. ⌜ r ≡ firstPlace (badSpan (copiedSpans (entry kinds) (entry classes) (entry lengths) (entry «slot_starts») (entry «slot_ends»)
+        (entry codes) (entry starts))) (length (entry kinds)) ⌝ }
 {
     let mut o = 0;
     while o < kinds.len() {
@@ -103,16 +103,16 @@ fn raw_fault(kind: u8, len: u32, start: u64, body: u32, bytes: usize, size: usiz
 pub fn first_raw_span(
     kinds: &[u8],
     lengths: &[u32],
-    starts: &[u64],
-    bodies: &[u32],
     bytes: &[u8],
     size: usize,
+    starts: &[u64],
+    bodies: &[u32],
 ) -> usize
     requires { ⌜ length (now lengths) ≡ length (now kinds) ⌝ }
     requires { ⌜ length (now starts) ≡ length (now kinds) ⌝ }
     requires { ⌜ length (now bodies) ≡ length (now kinds) ⌝ }
     requires { ⌜ size ≤ 8 ⌝ }
-    ensures { λ r. ⌜ r ≡ firstPlace (badSpan (rawSpans (entry kinds) (entry lengths) (entry starts) (entry bodies) (entry bytes) size)) (length (entry kinds)) ⌝ }
+    ensures { λ r. ⌜ r ≡ firstPlace (badSpan (rawSpans (entry kinds) (entry lengths) (entry bytes) size (entry starts) (entry bodies))) (length (entry kinds)) ⌝ }
 {
     let mut o = 0;
     while o < kinds.len() {

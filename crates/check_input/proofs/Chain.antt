@@ -19,7 +19,7 @@ use Rattle.rules.proofs.First.{first-append, first-once, first-place}
 use Rattle.rules.proofs.Even.{schema-lengths}
 use Rattle.rules.proofs.Acceptance.{size-allowed}
 use Rattle.check_input.specs.Flat.{faultsLate, faultsBefore}
-use Rattle.check_tables.specs.Lengths.{sizeOnly}
+use Rattle.check_tables.specs.Reads.{sizeOnly}
 use Rattle.check_tables.specs.Reads.{Tables}
 use Rattle.check_tables.proofs.Even.{schema-dumped, schema-tables}
 use Rattle.check_input.proofs.Either.{first-is}

@@ -127,9 +127,9 @@ pub(crate) fn judge_copied(
         codes,
         escape_places,
         escape_ids,
+        base,
         starts,
         roots,
-        base,
     )
 }
 
@@ -231,5 +231,5 @@ pub(crate) fn judge_raw(
     if class < class_ids.len() {
         return Checked::Refused(Refusal::Class(class));
     }
-    late::judge_bodies(ids, kinds, lengths, starts, bodies, bytes, roots, size)
+    late::judge_bodies(ids, kinds, lengths, bytes, size, starts, bodies, roots)
 }

@@ -26,9 +26,9 @@ pub(crate) fn judge_ids(
     codes: &[u32],
     escape_places: &[u64],
     escape_ids: &[u64],
+    base: u64,
     starts: &[u32],
     roots: &[u32],
-    base: u64,
 ) -> Checked
     requires { ⌜ length (now kinds) ≡ length (now ids) ⌝ }
     requires { ⌜ length (now classes) ≡ length (now ids) ⌝ }
@@ -48,10 +48,10 @@ pub(crate) fn judge_ids(
                 kinds,
                 classes,
                 lengths,
-                starts,
                 slot_starts,
                 slot_ends,
                 codes,
+                starts,
             );
             if o < ids.len() {
                 return Checked::Refused(Refusal::Span(o));
@@ -70,11 +70,11 @@ pub(crate) fn judge_bodies(
     ids: &[u64],
     kinds: &[u8],
     lengths: &[u32],
+    bytes: &[u8],
+    size: usize,
     starts: &[u64],
     bodies: &[u32],
-    bytes: &[u8],
     roots: &[u32],
-    size: usize,
 ) -> Checked
     requires { ⌜ length (now kinds) ≡ length (now ids) ⌝ }
     requires { ⌜ length (now lengths) ≡ length (now ids) ⌝ }
@@ -83,7 +83,7 @@ pub(crate) fn judge_bodies(
     requires { ⌜ size ≤ 8 ⌝ }
     ensures { λ r. ⌜ checkedSays r ≡ firstOf (faultsLate (lateRaw (entry ids) (entry kinds) (entry lengths) (entry starts) (entry bodies) (entry bytes) (entry roots) size)) (0 ∷ 0 ∷ []) ⌝ }
 {
-    let o = spans::first_raw_span(kinds, lengths, starts, bodies, bytes, size);
+    let o = spans::first_raw_span(kinds, lengths, bytes, size, starts, bodies);
     if o < ids.len() {
         return Checked::Refused(Refusal::Span(o));
     }

@@ -33,12 +33,12 @@ fn one_slot(kept: bool, weak: u8, code: u32) -> u64
 
 // The slots of an instance, whose class's slots begin at `first` and whose codes begin at `start`.
 fn count_slots(
-    codes: &[u32],
-    slot_weak: &[u8],
     kept: bool,
     start: usize,
     first: usize,
     n: usize,
+    slot_weak: &[u8],
+    codes: &[u32],
 ) -> u64
     requires { ⌜ start + n ≤ length (now codes) ⌝ }
     requires { ⌜ first + n ≤ length (now «slot_weak») ⌝ }
@@ -97,7 +97,7 @@ fn object_places(
     let first = columns::index(slot_starts[c]);
     let end = columns::index(slot_ends[c]);
     let kept = policy.keeps(class_kinds[c]);
-    count_slots(codes, slot_weak, kept, at, first, end - first)
+    count_slots(kept, at, first, end - first, slot_weak, codes)
 }
 
 // Those of all objects. Each has fewer than 2^32, so that the sum stays below 2^64.

@@ -8,22 +8,12 @@ use lib.ListN.{length, set}
 use Rattle.columns.specs.Lists.{_!_, tab, any, find, orElse, allOf, anyOf}
 use Rattle.columns.specs.Columns.{zeros}
 use Rattle.rules.specs.Input.{Input, objectCount, foundAt}
-use Rattle.check_tables.specs.Reads.{noSlots, noStatics, noPolicy, noRoute}
+use Rattle.rules.specs.Tables.{objectTable, classTable}
+use Rattle.check_tables.specs.Reads.{own, partInput, noRoute}
 
 -- the columns of the check
 abbrev pub findColumns : List ℕ → List ℕ → List ℕ → List ℕ → Input
-findColumns ids kinds classIds dumped = record {
-  objects = record { ids = ids; kinds = kinds; classes = []; lengths = [] };
-  schema = record {
-    classes = record { ids = classIds; loaders = []; dumped = dumped; kinds = []; slotStart = []; slotEnd = []; staticStart = []; staticEnd = [] };
-    slots = noSlots;
-    statics = noStatics;
-    names = 0;
-  };
-  roots = [];
-  route = noRoute;
-  policy = noPolicy;
-}
+findColumns ids kinds classIds dumped = partInput (objectTable own ids kinds [] []) (classTable own classIds [] dumped [] [] [] [] []) noRoute
 
 -- the object at which a dumped class is found (rule `foundAt`, laws `found-place`, `not-found`, `found-there`), or the number of objects
 unfoldable pub placeFor : List ℕ → ℕ → ℕ → ℕ

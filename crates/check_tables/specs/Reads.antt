@@ -10,43 +10,46 @@ use lib.ListN.{length}
 use Rattle.columns.specs.Lists.{_!_, allOf, anyOf}
 use Rattle.index.specs.Copied.{Ids}
 use Rattle.rules.specs.declared.ReferencePolicy.{ReferencePolicy}
-use Rattle.rules.specs.Input.{Objects, Classes, Slots, Statics, Schema, Copied, Raw, Route, Input}
+use Rattle.rules.specs.Input.{Objects, Classes, Slots, Statics, Schema, Route, Input}
+use Rattle.rules.specs.Tables.{objectTable, classTable, slotTable, staticTable, rawRoute, schemaOf, inputOf}
+
+-- a column given as the list that it holds
+abbrev pub own : List ℕ → List ℕ
+own xs = xs
 
 abbrev pub noSlots : Slots
-noSlots = record { offsets = []; labels = []; weak = [] }
+noSlots = slotTable own [] [] []
 
 abbrev pub noStatics : Statics
-noStatics = record { names = []; types = []; values = [] }
+noStatics = staticTable own [] [] []
 
 abbrev pub noPolicy : ReferencePolicy
 noPolicy = record { soft = false; weak = false }
 
+-- the raw route's id size alone, which is all that LIMIT reads of it
+abbrev pub sizeOnly : ℕ → Route
+sizeOnly size = rawRoute own [] size [] []
+
 abbrev pub noRoute : Route
-noRoute = Route.raw (record { bytes = []; size = 0; starts = []; lengths = [] })
+noRoute = sizeOnly 0
+
+-- an input of which objects, classes and ids are given
+abbrev pub partInput : Objects → Classes → Route → Input
+partInput objects classes route = inputOf objects (schemaOf classes noSlots noStatics 0) route [] noPolicy
 
 -- the columns of the object check
 abbrev pub objectColumns : List ℕ → List ℕ → List ℕ → List ℕ → List ℕ → Input
-objectColumns ids kinds classes lengths classIds = record {
-  objects = record { ids = ids; kinds = kinds; classes = classes; lengths = lengths };
-  schema = record {
-    classes = record { ids = classIds; loaders = []; dumped = []; kinds = []; slotStart = []; slotEnd = []; staticStart = []; staticEnd = [] };
-    slots = noSlots;
-    statics = noStatics;
-    names = 0;
-  };
-  roots = [];
-  route = noRoute;
-  policy = noPolicy;
-}
+objectColumns ids kinds classes lengths classIds =
+    partInput (objectTable own ids kinds classes lengths) (classTable own classIds [] [] [] [] [] [] []) noRoute
 
 -- the columns of the class check, without those about found objects
 abbrev pub schemaColumns : List ℕ → List ℕ → List ℕ → List ℕ → List ℕ → List ℕ → List ℕ → List ℕ → List ℕ → List ℕ → List ℕ → ℕ → Schema
-schemaColumns dumped kinds slotStart slotEnd staticStart staticEnd offsets labels weak staticNames types names = record {
-  classes = record { ids = []; loaders = []; dumped = dumped; kinds = kinds; slotStart = slotStart; slotEnd = slotEnd; staticStart = staticStart; staticEnd = staticEnd };
-  slots = record { offsets = offsets; labels = labels; weak = weak };
-  statics = record { names = staticNames; types = types; values = [] };
-  names = names;
-}
+schemaColumns dumped kinds slotStart slotEnd staticStart staticEnd offsets labels weak staticNames types names =
+    schemaOf
+    (classTable own [] [] dumped kinds slotStart slotEnd staticStart staticEnd)
+    (slotTable own offsets labels weak)
+    (staticTable own staticNames types [])
+    names
 
 -- A fault of an object whose forerunner has the id `before`, 0 for the first: the rule `badObject`, by the law `object-fault`.
 unfoldable pub objectFault : ℕ → ℕ → ℕ → ℕ → ℕ → ℕ → Bool

@@ -98,7 +98,7 @@ fn statics_fault(
 // The first class at fault, or the number of classes. The walk stops at the first faulty slot of the first faulty class.
 pub fn first_class(
     dumped: &[u8],
-    kinds: &[u8],
+    class_kinds: &[u8],
     slot_starts: &[u32],
     slot_ends: &[u32],
     static_starts: &[u32],
@@ -110,9 +110,9 @@ pub fn first_class(
     static_types: &[u8],
     names: usize,
 ) -> usize
-    requires { ⌜ Tables (now dumped) (now kinds) (now «slot_starts») (now «slot_ends») (now «static_starts») (now «static_ends»)
+    requires { ⌜ Tables (now dumped) (now «class_kinds») (now «slot_starts») (now «slot_ends») (now «static_starts») (now «static_ends»)
         (now «slot_offsets») (now «slot_labels») (now «slot_weak») (now «static_names») (now «static_types») ⌝ }
-    ensures { λ r. ⌜ r ≡ firstPlace (badClass (schemaColumns (entry dumped) (entry kinds)
+    ensures { λ r. ⌜ r ≡ firstPlace (badClass (schemaColumns (entry dumped) (entry «class_kinds»)
         (entry «slot_starts») (entry «slot_ends») (entry «static_starts») (entry «static_ends»)
         (entry «slot_offsets») (entry «slot_labels») (entry «slot_weak») (entry «static_names») (entry «static_types») names)) (length (entry dumped)) ⌝ }
 {
@@ -123,7 +123,7 @@ pub fn first_class(
         }
         if row_fault(
             dumped[class],
-            kinds[class],
+            class_kinds[class],
             slot_starts[class],
             slot_ends[class],
             static_starts[class],

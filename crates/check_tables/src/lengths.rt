@@ -5,7 +5,7 @@ ghost use lib.ListN.{length};
 ghost use Rattle.columns.specs.Loans.{entry};
 ghost use Rattle.rules.specs.Verdict.{differs, schemaLengths, badSize, limits};
 ghost use Rattle.rules.specs.Tables.{classTable, slotTable, staticTable, schemaOf};
-ghost use Rattle.check_tables.specs.Lengths.{sizeOnly};
+ghost use Rattle.check_tables.specs.Reads.{sizeOnly};
 
 pub fn differ(n: usize, a: usize) -> bool
     ensures { λ r. ⌜ r ≡ differs n (a ∷ []) ⌝ }

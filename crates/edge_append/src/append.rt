@@ -28,19 +28,19 @@ pub fn narrow(x: usize) -> u32
 // loader is not". The hints say where the search starts, and nothing else.
 pub fn append(
     s: Pass,
-    ids: &[u64],
     kind: usize,
     label: u32,
     kept: bool,
     id: u64,
+    ids: &[u64],
     short: &[u16],
     scale: u32,
     targets: &mut [u32],
     labels: &mut [u32],
-    weak: &mut [u32],
+    weak_to: &mut [u32],
 ) -> Pass
-    requires { ⌜ EdgeRoom (now ids) (refOf kind label kept id ∷ []) s (length (now targets)) (length (now labels)) (length (now weak)) ⌝ }
-    ensures { λ q. ⌜ Appended (entry ids) (refOf kind label kept id ∷ []) s q (entry targets) (entry labels) (entry weak) (exit targets) (exit labels) (exit weak) ⌝ }
+    requires { ⌜ EdgeRoom (now ids) (refOf kind label kept id ∷ []) s (length (now targets)) (length (now labels)) (length (now «weak_to»)) ⌝ }
+    ensures { λ q. ⌜ Appended (entry ids) (refOf kind label kept id ∷ []) s q (entry targets) (entry labels) (entry «weak_to») (exit targets) (exit labels) (exit «weak_to») ⌝ }
 {
     if id == 0 {
         return s;
@@ -54,7 +54,7 @@ pub fn append(
                 return s.absorb_found();
             }
             let at = s.weak;
-            weak[at] = narrow(t);
+            weak_to[at] = narrow(t);
             s.absorb_weak()
         }
         lookup::Found::Missing(_) => {
@@ -76,67 +76,67 @@ fn is_kept(weak: u8, keeps: bool) -> bool
 // The slot at a place of the slot columns.
 pub fn append_slot(
     s: Pass,
-    ids: &[u64],
-    slot_labels: &[u32],
-    slot_weak: &[u8],
     keeps: bool,
     place: usize,
     id: u64,
+    ids: &[u64],
+    slot_labels: &[u32],
+    slot_weak: &[u8],
     short: &[u16],
     scale: u32,
     targets: &mut [u32],
     labels: &mut [u32],
-    weak: &mut [u32],
+    weak_to: &mut [u32],
 ) -> Pass
     requires { ⌜ (place < length (now «slot_labels»)) × (place < length (now «slot_weak»)) ⌝ }
-    requires { ⌜ EdgeRoom (now ids) (slotWith (now «slot_labels») (now «slot_weak») keeps place id ∷ []) s (length (now targets)) (length (now labels)) (length (now weak)) ⌝ }
+    requires { ⌜ EdgeRoom (now ids) (slotWith (now «slot_labels») (now «slot_weak») keeps place id ∷ []) s (length (now targets)) (length (now labels)) (length (now «weak_to»)) ⌝ }
     ensures { λ q. ⌜ Appended (entry ids) (slotWith (entry «slot_labels») (entry «slot_weak») keeps place id ∷ []) s q (entry targets) (entry labels)
-        (entry weak) (exit targets) (exit labels) (exit weak) ⌝ }
+        (entry «weak_to») (exit targets) (exit labels) (exit «weak_to») ⌝ }
 {
     let kept = is_kept(slot_weak[place], keeps);
     append(
         s,
-        ids,
         SLOT,
         slot_labels[place],
         kept,
         id,
+        ids,
         short,
         scale,
         targets,
         labels,
-        weak,
+        weak_to,
     )
 }
 
 // Element k of an array.
 pub fn append_element(
     s: Pass,
-    ids: &[u64],
     k: usize,
     id: u64,
+    ids: &[u64],
     short: &[u16],
     scale: u32,
     targets: &mut [u32],
     labels: &mut [u32],
-    weak: &mut [u32],
+    weak_to: &mut [u32],
 ) -> Pass
     requires { ⌜ k < 2 ^ 31 ⌝ }
-    requires { ⌜ EdgeRoom (now ids) (elementWith k id ∷ []) s (length (now targets)) (length (now labels)) (length (now weak)) ⌝ }
-    ensures { λ q. ⌜ Appended (entry ids) (elementWith k id ∷ []) s q (entry targets) (entry labels) (entry weak) (exit targets) (exit labels) (exit weak) ⌝ }
+    requires { ⌜ EdgeRoom (now ids) (elementWith k id ∷ []) s (length (now targets)) (length (now labels)) (length (now «weak_to»)) ⌝ }
+    ensures { λ q. ⌜ Appended (entry ids) (elementWith k id ∷ []) s q (entry targets) (entry labels) (entry «weak_to») (exit targets) (exit labels) (exit «weak_to») ⌝ }
 {
     let label = rules::Label::ARRAY_ELEMENT + narrow(k);
     append(
         s,
-        ids,
         ELEMENT,
         label,
         true,
         id,
+        ids,
         short,
         scale,
         targets,
         labels,
-        weak,
+        weak_to,
     )
 }

@@ -14,75 +14,75 @@ const OBJECT: u8 = 2;
 // The static at a place, if it is an object.
 fn append_static(
     s: Pass,
+    place: usize,
     ids: &[u64],
     static_names: &[u32],
     static_types: &[u8],
     static_values: &[u64],
-    place: usize,
     short: &[u16],
     scale: u32,
     targets: &mut [u32],
     labels: &mut [u32],
-    weak: &mut [u32],
+    weak_to: &mut [u32],
 ) -> Pass
     requires { ⌜ (place < length (now «static_names»)) × (place < length (now «static_types»)) × (place < length (now «static_values»)) ⌝ }
-    requires { ⌜ EdgeRoom (now ids) (staticRefAt (now «static_names») (now «static_types») (now «static_values») place) s (length (now targets)) (length (now labels)) (length (now weak)) ⌝ }
+    requires { ⌜ EdgeRoom (now ids) (staticRefAt (now «static_names») (now «static_types») (now «static_values») place) s (length (now targets)) (length (now labels)) (length (now «weak_to»)) ⌝ }
     ensures { λ q. ⌜ Appended (entry ids) (staticRefAt (entry «static_names») (entry «static_types») (entry «static_values») place) s q (entry targets)
-        (entry labels) (entry weak) (exit targets) (exit labels) (exit weak) ⌝ }
+        (entry labels) (entry «weak_to») (exit targets) (exit labels) (exit «weak_to») ⌝ }
 {
     if static_types[place] != OBJECT {
         return s;
     }
     append::append(
         s,
-        ids,
         append::STATIC,
         static_names[place],
         true,
         static_values[place],
+        ids,
         short,
         scale,
         targets,
         labels,
-        weak,
+        weak_to,
     )
 }
 
 fn statics(
     from: Pass,
+    first: usize,
+    count: usize,
     ids: &[u64],
     static_names: &[u32],
     static_types: &[u8],
     static_values: &[u64],
-    first: usize,
-    count: usize,
     short: &[u16],
     scale: u32,
     targets: &mut [u32],
     labels: &mut [u32],
-    weak: &mut [u32],
+    weak_to: &mut [u32],
 ) -> Pass
     requires { ⌜ (first + count ≤ length (now «static_names»)) × (first + count ≤ length (now «static_types»)) × (first + count ≤ length (now «static_values»)) ⌝ }
     requires { ⌜ EdgeRoom (now ids) (collect (staticFrom (now «static_names») (now «static_types») (now «static_values») first) count) from (length (now targets))
-        (length (now labels)) (length (now weak)) ⌝ }
+        (length (now labels)) (length (now «weak_to»)) ⌝ }
     ensures { λ q. ⌜ Appended (entry ids) (collect (staticFrom (entry «static_names») (entry «static_types») (entry «static_values») first) count) from q
-        (entry targets) (entry labels) (entry weak) (exit targets) (exit labels) (exit weak) ⌝ }
+        (entry targets) (entry labels) (entry «weak_to») (exit targets) (exit labels) (exit «weak_to») ⌝ }
 {
     let mut s = from;
     let mut k = 0;
     while k < count {
         s = append_static(
             s,
+            first + k,
             ids,
             static_names,
             static_types,
             static_values,
-            first + k,
             short,
             scale,
             targets,
             labels,
-            weak,
+            weak_to,
         );
         k += 1;
     }
@@ -92,24 +92,24 @@ fn statics(
 // The statics of the class that is found at an object: `mark` is the class and one, 0 for none.
 pub fn found_statics(
     s: Pass,
+    mark: usize,
     ids: &[u64],
     static_starts: &[u32],
     static_ends: &[u32],
     static_names: &[u32],
     static_types: &[u8],
     static_values: &[u64],
-    mark: usize,
     short: &[u16],
     scale: u32,
     targets: &mut [u32],
     labels: &mut [u32],
-    weak: &mut [u32],
+    weak_to: &mut [u32],
 ) -> Pass
     requires { ⌜ StaticsIn (now «static_starts») (now «static_ends») (length (now «static_names»)) (length (now «static_types»)) (length (now «static_values»)) mark ⌝ }
     requires { ⌜ EdgeRoom (now ids) (staticsAt (now «static_starts») (now «static_ends») (now «static_names») (now «static_types») (now «static_values») mark) s
-        (length (now targets)) (length (now labels)) (length (now weak)) ⌝ }
+        (length (now targets)) (length (now labels)) (length (now «weak_to»)) ⌝ }
     ensures { λ q. ⌜ Appended (entry ids) (staticsAt (entry «static_starts») (entry «static_ends») (entry «static_names») (entry «static_types»)
-        (entry «static_values») mark) s q (entry targets) (entry labels) (entry weak) (exit targets) (exit labels) (exit weak) ⌝ }
+        (entry «static_values») mark) s q (entry targets) (entry labels) (entry «weak_to») (exit targets) (exit labels) (exit «weak_to») ⌝ }
 {
     if mark == 0 {
         return s;
@@ -118,50 +118,50 @@ pub fn found_statics(
     let count = columns::index(static_ends[mark - 1]) - first;
     statics(
         s,
+        first,
+        count,
         ids,
         static_names,
         static_types,
         static_values,
-        first,
-        count,
         short,
         scale,
         targets,
         labels,
-        weak,
+        weak_to,
     )
 }
 
 // Its loader: "a missing static is dangling; a missing loader is not."
 pub fn found_loader(
     s: Pass,
+    mark: usize,
     ids: &[u64],
     loaders: &[u64],
-    mark: usize,
     short: &[u16],
     scale: u32,
     targets: &mut [u32],
     labels: &mut [u32],
-    weak: &mut [u32],
+    weak_to: &mut [u32],
 ) -> Pass
     requires { ⌜ (0 < mark → mark ≤ length (now loaders)) ⌝ }
-    requires { ⌜ EdgeRoom (now ids) (loaderAt (now loaders) mark) s (length (now targets)) (length (now labels)) (length (now weak)) ⌝ }
-    ensures { λ q. ⌜ Appended (entry ids) (loaderAt (entry loaders) mark) s q (entry targets) (entry labels) (entry weak) (exit targets) (exit labels) (exit weak) ⌝ }
+    requires { ⌜ EdgeRoom (now ids) (loaderAt (now loaders) mark) s (length (now targets)) (length (now labels)) (length (now «weak_to»)) ⌝ }
+    ensures { λ q. ⌜ Appended (entry ids) (loaderAt (entry loaders) mark) s q (entry targets) (entry labels) (entry «weak_to») (exit targets) (exit labels) (exit «weak_to») ⌝ }
 {
     if mark == 0 {
         return s;
     }
     append::append(
         s,
-        ids,
         append::LOADER,
         rules::Label::LOADER,
         true,
         loaders[mark - 1],
+        ids,
         short,
         scale,
         targets,
         labels,
-        weak,
+        weak_to,
     )
 }

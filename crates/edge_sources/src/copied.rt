@@ -33,30 +33,30 @@ pub fn id_held(
 // The first `count` slots from `first` on, whose ids stand from `start` on; escapes are sought from row `row` on.
 fn slots(
     from: Pass,
+    start: usize,
+    row: usize,
+    keeps: bool,
+    first: usize,
+    count: usize,
     ids: &[u64],
+    slot_labels: &[u32],
+    slot_weak: &[u8],
     codes: &[u32],
     escape_places: &[u64],
     escape_ids: &[u64],
     base: u64,
-    start: usize,
-    row: usize,
-    slot_labels: &[u32],
-    slot_weak: &[u8],
-    keeps: bool,
-    first: usize,
-    count: usize,
     short: &[u16],
     scale: u32,
     targets: &mut [u32],
     labels: &mut [u32],
-    weak: &mut [u32],
+    weak_to: &mut [u32],
 ) -> Pass
     requires { ⌜ Rises (now «escape_places») ⌝ }
     requires { ⌜ (first + count ≤ length (now «slot_labels»)) × (first + count ≤ length (now «slot_weak»)) × (start + count < 2 ^ 64) ⌝ }
     requires { ⌜ EdgeRoom (now ids) (tab (copiedSlot (idsOf (now codes) (now «escape_places») (now «escape_ids») base) start (now «slot_labels») (now «slot_weak»)
-        keeps first) count) from (length (now targets)) (length (now labels)) (length (now weak)) ⌝ }
+        keeps first) count) from (length (now targets)) (length (now labels)) (length (now «weak_to»)) ⌝ }
     ensures { λ q. ⌜ Appended (entry ids) (tab (copiedSlot (idsOf (entry codes) (entry «escape_places») (entry «escape_ids») base) start (entry «slot_labels»)
-        (entry «slot_weak») keeps first) count) from q (entry targets) (entry labels) (entry weak) (exit targets) (exit labels) (exit weak) ⌝ }
+        (entry «slot_weak») keeps first) count) from q (entry targets) (entry labels) (entry «weak_to») (exit targets) (exit labels) (exit «weak_to») ⌝ }
 {
     let mut s = from;
     let mut cursor = row;
@@ -66,17 +66,17 @@ fn slots(
         cursor = read.row;
         s = append::append_slot(
             s,
-            ids,
-            slot_labels,
-            slot_weak,
             keeps,
             first + k,
             read.id,
+            ids,
+            slot_labels,
+            slot_weak,
             short,
             scale,
             targets,
             labels,
-            weak,
+            weak_to,
         );
         k += 1;
     }
@@ -86,26 +86,26 @@ fn slots(
 // The first `count` elements, whose ids stand from `start` on.
 fn elements(
     from: Pass,
+    start: usize,
+    row: usize,
+    count: usize,
     ids: &[u64],
     codes: &[u32],
     escape_places: &[u64],
     escape_ids: &[u64],
     base: u64,
-    start: usize,
-    row: usize,
-    count: usize,
     short: &[u16],
     scale: u32,
     targets: &mut [u32],
     labels: &mut [u32],
-    weak: &mut [u32],
+    weak_to: &mut [u32],
 ) -> Pass
     requires { ⌜ Rises (now «escape_places») ⌝ }
     requires { ⌜ (count ≤ 2 ^ 31) × (start + count < 2 ^ 64) ⌝ }
     requires { ⌜ EdgeRoom (now ids) (tab (copiedElement (idsOf (now codes) (now «escape_places») (now «escape_ids») base) start) count) from (length (now targets))
-        (length (now labels)) (length (now weak)) ⌝ }
+        (length (now labels)) (length (now «weak_to»)) ⌝ }
     ensures { λ q. ⌜ Appended (entry ids) (tab (copiedElement (idsOf (entry codes) (entry «escape_places») (entry «escape_ids») base) start) count) from q
-        (entry targets) (entry labels) (entry weak) (exit targets) (exit labels) (exit weak) ⌝ }
+        (entry targets) (entry labels) (entry «weak_to») (exit targets) (exit labels) (exit «weak_to») ⌝ }
 {
     let mut s = from;
     let mut cursor = row;
@@ -113,7 +113,7 @@ fn elements(
     while k < count {
         let read = id_from(codes, escape_places, escape_ids, base, start + k, cursor);
         cursor = read.row;
-        s = append::append_element(s, ids, k, read.id, short, scale, targets, labels, weak);
+        s = append::append_element(s, k, read.id, ids, short, scale, targets, labels, weak_to);
         k += 1;
     }
     s
@@ -122,34 +122,34 @@ fn elements(
 // The slots of an object, none unless it is an instance: "class is read for instances only".
 pub fn object_slots(
     s: Pass,
-    ids: &[u64],
-    codes: &[u32],
-    escape_places: &[u64],
-    escape_ids: &[u64],
-    base: u64,
     start: usize,
     row: usize,
+    kind: u8,
+    class: usize,
+    ids: &[u64],
     class_kinds: &[u8],
     slot_starts: &[u32],
     slot_ends: &[u32],
     slot_labels: &[u32],
     slot_weak: &[u8],
+    codes: &[u32],
+    escape_places: &[u64],
+    escape_ids: &[u64],
+    base: u64,
     policy: rules::ReferencePolicy,
-    kind: u8,
-    class: usize,
     short: &[u16],
     scale: u32,
     targets: &mut [u32],
     labels: &mut [u32],
-    weak: &mut [u32],
+    weak_to: &mut [u32],
 ) -> Pass
     requires { ⌜ Rises (now «escape_places») ⌝ }
     requires { ⌜ SlotsIn (now «class_kinds») (now «slot_starts») (now «slot_ends») (length (now «slot_labels»)) (length (now «slot_weak»)) kind class start ⌝ }
     requires { ⌜ EdgeRoom (now ids) (copiedSlots (idsOf (now codes) (now «escape_places») (now «escape_ids») base) start (now «class_kinds») (now «slot_starts»)
-        (now «slot_ends») (now «slot_labels») (now «slot_weak») policy kind class) s (length (now targets)) (length (now labels)) (length (now weak)) ⌝ }
+        (now «slot_ends») (now «slot_labels») (now «slot_weak») policy kind class) s (length (now targets)) (length (now labels)) (length (now «weak_to»)) ⌝ }
     ensures { λ q. ⌜ Appended (entry ids) (copiedSlots (idsOf (entry codes) (entry «escape_places») (entry «escape_ids») base) start (entry «class_kinds»)
-        (entry «slot_starts») (entry «slot_ends») (entry «slot_labels») (entry «slot_weak») policy kind class) s q (entry targets) (entry labels) (entry weak)
-        (exit targets) (exit labels) (exit weak) ⌝ }
+        (entry «slot_starts») (entry «slot_ends») (entry «slot_labels») (entry «slot_weak») policy kind class) s q (entry targets) (entry labels) (entry «weak_to»)
+        (exit targets) (exit labels) (exit «weak_to») ⌝ }
 {
     if kind != rules::Kind::INSTANCE {
         return s;
@@ -159,68 +159,68 @@ pub fn object_slots(
     let count = columns::index(slot_ends[class]) - first;
     slots(
         s,
+        start,
+        row,
+        keeps,
+        first,
+        count,
         ids,
+        slot_labels,
+        slot_weak,
         codes,
         escape_places,
         escape_ids,
         base,
-        start,
-        row,
-        slot_labels,
-        slot_weak,
-        keeps,
-        first,
-        count,
         short,
         scale,
         targets,
         labels,
-        weak,
+        weak_to,
     )
 }
 
 // The elements of an object, none unless it is an array of objects.
 pub fn object_elements(
     s: Pass,
+    start: usize,
+    row: usize,
+    kind: u8,
+    count: usize,
     ids: &[u64],
     codes: &[u32],
     escape_places: &[u64],
     escape_ids: &[u64],
     base: u64,
-    start: usize,
-    row: usize,
-    kind: u8,
-    count: usize,
     short: &[u16],
     scale: u32,
     targets: &mut [u32],
     labels: &mut [u32],
-    weak: &mut [u32],
+    weak_to: &mut [u32],
 ) -> Pass
     requires { ⌜ Rises (now «escape_places») ⌝ }
     requires { ⌜ (kind ≡ 1 → (count ≤ 2 ^ 31) × (start + count < 2 ^ 64)) ⌝ }
     requires { ⌜ EdgeRoom (now ids) (copiedElements (idsOf (now codes) (now «escape_places») (now «escape_ids») base) start kind count) s (length (now targets))
-        (length (now labels)) (length (now weak)) ⌝ }
+        (length (now labels)) (length (now «weak_to»)) ⌝ }
     ensures { λ q. ⌜ Appended (entry ids) (copiedElements (idsOf (entry codes) (entry «escape_places») (entry «escape_ids») base) start kind count) s q
-        (entry targets) (entry labels) (entry weak) (exit targets) (exit labels) (exit weak) ⌝ }
+        (entry targets) (entry labels) (entry «weak_to») (exit targets) (exit labels) (exit «weak_to») ⌝ }
 {
     if kind != rules::Kind::OBJECT_ARRAY {
         return s;
     }
     elements(
         s,
+        start,
+        row,
+        count,
         ids,
         codes,
         escape_places,
         escape_ids,
         base,
-        start,
-        row,
-        count,
         short,
         scale,
         targets,
         labels,
-        weak,
+        weak_to,
     )
 }

@@ -7,6 +7,7 @@ ghost use lib.Dec.{ltb, eqb};
 ghost use lib.ListN.{length};
 ghost use Rattle.columns.specs.Lists.{_!_, allOf};
 ghost use Rattle.columns.specs.Columns.{accepts};
+ghost use Rattle.columns.specs.Loans.{entry};
 ghost use Rattle.columns.specs.Ranks.{Rises};
 ghost use Rattle.index.specs.Copied.{idsOf, whole, escapeBack};
 ghost use Rattle.rules.specs.Input.{copiedId};
@@ -40,19 +41,19 @@ fn whole_id(id: u64, place: usize) -> u64
 }
 
 // The id of a place whose row this is; 0 where nothing reads back.
-fn at_row(places: &[u64], ids: &[u64], place: usize, row: usize) -> u64
-    ensures { λ r. ⌜ r ≡ cond (accepts (escapeBack (now (places .entry)) (now (ids .entry)) place row)) (escapeBack (now (places .entry)) (now (ids .entry)) place row ! 1) 0 ⌝ }
+fn at_row(escape_places: &[u64], escape_ids: &[u64], place: usize, row: usize) -> u64
+    ensures { λ r. ⌜ (let b = escapeBack (entry «escape_places») (entry «escape_ids») place row in r ≡ cond (accepts b) (b ! 1) 0) ⌝ }
 {
-    if places.len() <= row {
+    if escape_places.len() <= row {
         return 0;
     }
-    if places[row] != place as u64 {
+    if escape_places[row] != place as u64 {
         return 0;
     }
-    if ids.len() <= row {
+    if escape_ids.len() <= row {
         return 0;
     }
-    whole_id(ids[row], place)
+    whole_id(escape_ids[row], place)
 }
 
 // The id at a place, as `id_held` reads it, the cursor anywhere.

@@ -66,29 +66,29 @@ pub fn id_at_bytes(bytes: &[u8], at: usize, size: usize) -> u64
 // The slots from `first` on of a body that stands from `start` on. "Reading stops at the first slot that ends past the body."
 fn slots(
     from: Pass,
-    ids: &[u64],
-    bytes: &[u8],
-    size: usize,
     start: usize,
     body: usize,
-    slot_offsets: &[u32],
-    slot_labels: &[u32],
-    slot_weak: &[u8],
     keeps: bool,
     first: usize,
     count: usize,
+    ids: &[u64],
+    slot_offsets: &[u32],
+    slot_labels: &[u32],
+    slot_weak: &[u8],
+    bytes: &[u8],
+    size: usize,
     short: &[u16],
     scale: u32,
     targets: &mut [u32],
     labels: &mut [u32],
-    weak: &mut [u32],
+    weak_to: &mut [u32],
 ) -> Pass
     requires { ⌜ (first + count ≤ length (now «slot_offsets»)) × (first + count ≤ length (now «slot_labels»)) × (first + count ≤ length (now «slot_weak»)) ⌝ }
     requires { ⌜ BodyIn (length (now bytes)) size start body ⌝ }
     requires { ⌜ EdgeRoom (now ids) (tab (rawSlot (now bytes) size start (now «slot_offsets») (now «slot_labels») (now «slot_weak») keeps first)
-        (slotsRead (now «slot_offsets») size body first count)) from (length (now targets)) (length (now labels)) (length (now weak)) ⌝ }
+        (slotsRead (now «slot_offsets») size body first count)) from (length (now targets)) (length (now labels)) (length (now «weak_to»)) ⌝ }
     ensures { λ q. ⌜ Appended (entry ids) (tab (rawSlot (entry bytes) size start (entry «slot_offsets») (entry «slot_labels») (entry «slot_weak») keeps first)
-        (slotsRead (entry «slot_offsets») size body first count)) from q (entry targets) (entry labels) (entry weak) (exit targets) (exit labels) (exit weak) ⌝ }
+        (slotsRead (entry «slot_offsets») size body first count)) from q (entry targets) (entry labels) (entry «weak_to») (exit targets) (exit labels) (exit «weak_to») ⌝ }
 {
     let mut s = from;
     let mut k = 0;
@@ -100,17 +100,17 @@ fn slots(
         let id = id_at_bytes(bytes, start + spot, size);
         s = append::append_slot(
             s,
-            ids,
-            slot_labels,
-            slot_weak,
             keeps,
             first + k,
             id,
+            ids,
+            slot_labels,
+            slot_weak,
             short,
             scale,
             targets,
             labels,
-            weak,
+            weak_to,
         );
         k += 1;
     }
@@ -120,27 +120,27 @@ fn slots(
 // The first `count` elements of a body that stands from `start` on: element k stands behind k ids.
 fn elements(
     from: Pass,
+    start: usize,
+    count: usize,
     ids: &[u64],
     bytes: &[u8],
     size: usize,
-    start: usize,
-    count: usize,
     short: &[u16],
     scale: u32,
     targets: &mut [u32],
     labels: &mut [u32],
-    weak: &mut [u32],
+    weak_to: &mut [u32],
 ) -> Pass
     requires { ⌜ (count ≤ 2 ^ 31) × (size ≤ 8) × (start + count * size ≤ length (now bytes)) ⌝ }
-    requires { ⌜ EdgeRoom (now ids) (tab (rawElement (now bytes) size start) count) from (length (now targets)) (length (now labels)) (length (now weak)) ⌝ }
-    ensures { λ q. ⌜ Appended (entry ids) (tab (rawElement (entry bytes) size start) count) from q (entry targets) (entry labels) (entry weak) (exit targets) (exit labels) (exit weak) ⌝ }
+    requires { ⌜ EdgeRoom (now ids) (tab (rawElement (now bytes) size start) count) from (length (now targets)) (length (now labels)) (length (now «weak_to»)) ⌝ }
+    ensures { λ q. ⌜ Appended (entry ids) (tab (rawElement (entry bytes) size start) count) from q (entry targets) (entry labels) (entry «weak_to») (exit targets) (exit labels) (exit «weak_to») ⌝ }
 {
     let mut s = from;
     let mut at = start;
     let mut k = 0;
     while k < count {
         let id = id_at_bytes(bytes, at, size);
-        s = append::append_element(s, ids, k, id, short, scale, targets, labels, weak);
+        s = append::append_element(s, k, id, ids, short, scale, targets, labels, weak_to);
         at += size;
         k += 1;
     }
@@ -150,34 +150,34 @@ fn elements(
 // The slots of an object, none unless it is an instance.
 pub fn object_slots(
     s: Pass,
-    ids: &[u64],
-    bytes: &[u8],
-    size: usize,
     start: usize,
     body: usize,
+    kind: u8,
+    class: usize,
+    ids: &[u64],
     class_kinds: &[u8],
     slot_starts: &[u32],
     slot_ends: &[u32],
     slot_offsets: &[u32],
     slot_labels: &[u32],
     slot_weak: &[u8],
+    bytes: &[u8],
+    size: usize,
     policy: rules::ReferencePolicy,
-    kind: u8,
-    class: usize,
     short: &[u16],
     scale: u32,
     targets: &mut [u32],
     labels: &mut [u32],
-    weak: &mut [u32],
+    weak_to: &mut [u32],
 ) -> Pass
     requires { ⌜ SlotsIn (now «class_kinds») (now «slot_starts») (now «slot_ends») (length (now «slot_labels»)) (length (now «slot_weak»)) kind class 0 ⌝ }
     requires { ⌜ length (now «slot_offsets») ≡ length (now «slot_labels») ⌝ }
     requires { ⌜ (kind ≡ 0 → BodyIn (length (now bytes)) size start body) ⌝ }
     requires { ⌜ EdgeRoom (now ids) (rawSlots (now bytes) size start body (now «class_kinds») (now «slot_starts») (now «slot_ends») (now «slot_offsets»)
-        (now «slot_labels») (now «slot_weak») policy kind class) s (length (now targets)) (length (now labels)) (length (now weak)) ⌝ }
+        (now «slot_labels») (now «slot_weak») policy kind class) s (length (now targets)) (length (now labels)) (length (now «weak_to»)) ⌝ }
     ensures { λ q. ⌜ Appended (entry ids) (rawSlots (entry bytes) size start body (entry «class_kinds») (entry «slot_starts») (entry «slot_ends»)
-        (entry «slot_offsets») (entry «slot_labels») (entry «slot_weak») policy kind class) s q (entry targets) (entry labels) (entry weak) (exit targets)
-        (exit labels) (exit weak) ⌝ }
+        (entry «slot_offsets») (entry «slot_labels») (entry «slot_weak») policy kind class) s q (entry targets) (entry labels) (entry «weak_to») (exit targets)
+        (exit labels) (exit «weak_to») ⌝ }
 {
     if kind != rules::Kind::INSTANCE {
         return s;
@@ -187,58 +187,58 @@ pub fn object_slots(
     let count = columns::index(slot_ends[class]) - first;
     slots(
         s,
-        ids,
-        bytes,
-        size,
         start,
         body,
-        slot_offsets,
-        slot_labels,
-        slot_weak,
         keeps,
         first,
         count,
+        ids,
+        slot_offsets,
+        slot_labels,
+        slot_weak,
+        bytes,
+        size,
         short,
         scale,
         targets,
         labels,
-        weak,
+        weak_to,
     )
 }
 
 // The elements of an object, none unless it is an array of objects.
 pub fn object_elements(
     s: Pass,
-    ids: &[u64],
-    bytes: &[u8],
-    size: usize,
     start: usize,
     kind: u8,
     count: usize,
+    ids: &[u64],
+    bytes: &[u8],
+    size: usize,
     short: &[u16],
     scale: u32,
     targets: &mut [u32],
     labels: &mut [u32],
-    weak: &mut [u32],
+    weak_to: &mut [u32],
 ) -> Pass
     requires { ⌜ (kind ≡ 1 → (count ≤ 2 ^ 31) × (size ≤ 8) × (start + count * size ≤ length (now bytes))) ⌝ }
-    requires { ⌜ EdgeRoom (now ids) (rawElements (now bytes) size start kind count) s (length (now targets)) (length (now labels)) (length (now weak)) ⌝ }
-    ensures { λ q. ⌜ Appended (entry ids) (rawElements (entry bytes) size start kind count) s q (entry targets) (entry labels) (entry weak) (exit targets) (exit labels) (exit weak) ⌝ }
+    requires { ⌜ EdgeRoom (now ids) (rawElements (now bytes) size start kind count) s (length (now targets)) (length (now labels)) (length (now «weak_to»)) ⌝ }
+    ensures { λ q. ⌜ Appended (entry ids) (rawElements (entry bytes) size start kind count) s q (entry targets) (entry labels) (entry «weak_to») (exit targets) (exit labels) (exit «weak_to») ⌝ }
 {
     if kind != rules::Kind::OBJECT_ARRAY {
         return s;
     }
     elements(
         s,
+        start,
+        count,
         ids,
         bytes,
         size,
-        start,
-        count,
         short,
         scale,
         targets,
         labels,
-        weak,
+        weak_to,
     )
 }

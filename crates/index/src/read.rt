@@ -15,21 +15,21 @@ fn id_of(id: u64, i: usize) -> CopiedId
     CopiedId::Id(id)
 }
 
-pub(crate) fn escape_at(places: &[u64], ids: &[u64], i: usize) -> CopiedId
-    ensures { λ r. ⌜ idSays r ≡ escapeBack (now (places .entry)) (now (ids .entry)) i (bisect (now (places .entry)) i) ⌝ }
+pub(crate) fn escape_at(escape_places: &[u64], escape_ids: &[u64], i: usize) -> CopiedId
+    ensures { λ r. ⌜ idSays r ≡ escapeBack (now («escape_places» .entry)) (now («escape_ids» .entry)) i (bisect (now («escape_places» .entry)) i) ⌝ }
 {
     let at = i as u64;
-    let k = columns::bisect_u64(places, at);
-    if places.len() <= k {
+    let k = columns::bisect_u64(escape_places, at);
+    if escape_places.len() <= k {
         return CopiedId::Copied(i);
     }
-    if places[k] != at {
+    if escape_places[k] != at {
         return CopiedId::Copied(i);
     }
-    if ids.len() <= k {
+    if escape_ids.len() <= k {
         return CopiedId::Copied(i);
     }
-    id_of(ids[k], i)
+    id_of(escape_ids[k], i)
 }
 
 pub(crate) fn inline_at(base: u64, code: u32, i: usize) -> CopiedId

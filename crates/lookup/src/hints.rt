@@ -60,17 +60,17 @@ fn step_of(id: u64, first: u64, scale: u32) -> usize {
     ((id - first) << (scale - 64)) as usize
 }
 
-fn write(hints: &mut [u16], at: usize, short: u16) {
-    if at < hints.len() {
-        hints[at] = short;
+fn write(short: &mut [u16], at: usize, half: u16) {
+    if at < short.len() {
+        short[at] = half;
     }
 }
 
 // A place is two short numbers.
-fn put(hints: &mut [u16], bucket: usize, place: usize) {
-    if bucket < hints.len() / 2 {
-        write(hints, 2 * bucket, (place % 65536) as u16);
-        write(hints, 2 * bucket + 1, (place / 65536 % 65536) as u16);
+fn put(short: &mut [u16], bucket: usize, place: usize) {
+    if bucket < short.len() / 2 {
+        write(short, 2 * bucket, (place % 65536) as u16);
+        write(short, 2 * bucket + 1, (place / 65536 % 65536) as u16);
     }
 }
 
@@ -78,19 +78,19 @@ fn joined(low: u16, high: u16) -> u32 {
     low as u32 + high as u32 * 65536
 }
 
-fn hint(hints: &[u16], bucket: usize) -> u32
-    requires { ⌜ 2 * bucket + 1 < length (now hints) ⌝ }
+fn hint(short: &[u16], bucket: usize) -> u32
+    requires { ⌜ 2 * bucket + 1 < length (now short) ⌝ }
 {
-    joined(hints[2 * bucket], hints[2 * bucket + 1])
+    joined(short[2 * bucket], short[2 * bucket + 1])
 }
 
 // The hints of a column of ids: from the back, so that the first id of a bucket is what stays.
-pub fn mark(ids: &[u64], hints: &mut [u16]) {
-    let scale = scale(ids, hints.len());
+pub fn mark(ids: &[u64], short: &mut [u16]) {
+    let scale = scale(ids, short.len());
     let mut i = ids.len();
     while 0 < i {
         i -= 1;
-        put(hints, step_of(ids[i], ids[0], scale) / 65536, i);
+        put(short, step_of(ids[i], ids[0], scale) / 65536, i);
     }
 }
 
@@ -138,30 +138,30 @@ fn part_of(step: usize) -> u16 {
     (step % 65536) as u16
 }
 
-fn guess(ids: &[u64], id: u64, hints: &[u16], scale: u32) -> usize {
+fn guess(ids: &[u64], id: u64, short: &[u16], scale: u32) -> usize {
     if ids.len() == 0 {
         return 0;
     }
-    if hints.len() < 4 {
+    if short.len() < 4 {
         return 0;
     }
     let step = step_of(id, ids[0], scale);
     let bucket = step / 65536;
-    if hints.len() / 2 - 2 < bucket {
+    if short.len() / 2 - 2 < bucket {
         return ids.len();
     }
     over_lower(
         ids,
         id,
-        between(hint(hints, bucket), hint(hints, bucket + 1), part_of(step)),
+        between(hint(short, bucket), hint(short, bucket + 1), part_of(step)),
     )
 }
 
 // The lookup on a column that rises, from its hint: where the hints are the column's own, few looks at the ids, most of them at neighbours.
-pub fn find_hinted(ids: &[u64], id: u64, hints: &[u16], scale: u32) -> Found
+pub fn find_hinted(ids: &[u64], id: u64, short: &[u16], scale: u32) -> Found
     ensures { λ r. ⌜ Sought (now (ids .entry)) id r ⌝ }
 {
-    let at = guess(ids, id, hints, scale);
+    let at = guess(ids, id, short, scale);
     if at < ids.len() {
         if ids[at] == id {
             return Found::At(at);

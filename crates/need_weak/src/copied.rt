@@ -15,16 +15,16 @@ ghost use Rattle.need_weak.specs.Pairs.{pairsIn, Few, copiedPairs, copie
 
 // The pairs of the first `count` slots from `first` on, of a class whose kind is not kept; their ids stand from `start` on.
 fn slots(
+    start: usize,
+    first: usize,
+    count: usize,
+    guess: usize,
     ids: &[u64],
+    slot_weak: &[u8],
     codes: &[u32],
     escape_places: &[u64],
     escape_ids: &[u64],
     base: u64,
-    start: usize,
-    slot_weak: &[u8],
-    first: usize,
-    count: usize,
-    guess: usize,
 ) -> usize
     requires { ⌜ Rises (now ids) × (first + count ≤ length (now «slot_weak»)) × (start + count < 2 ^ 64) ⌝ }
     ensures { λ r. ⌜ Few (pairsIn (entry ids) (tab (copiedSlot (idsOf (entry codes) (entry «escape_places») (entry «escape_ids») base) start []
@@ -46,20 +46,20 @@ fn slots(
 
 // The pairs of one object: none unless it is an instance, and none where its class's kind is kept.
 fn object(
-    ids: &[u64],
-    codes: &[u32],
-    escape_places: &[u64],
-    escape_ids: &[u64],
-    base: u64,
     start: usize,
+    kind: u8,
+    class: usize,
+    guess: usize,
+    ids: &[u64],
     class_kinds: &[u8],
     slot_starts: &[u32],
     slot_ends: &[u32],
     slot_weak: &[u8],
+    codes: &[u32],
+    escape_places: &[u64],
+    escape_ids: &[u64],
+    base: u64,
     policy: rules::ReferencePolicy,
-    kind: u8,
-    class: usize,
-    guess: usize,
 ) -> usize
     requires { ⌜ Rises (now ids) × SlotsIn (now «class_kinds») (now «slot_starts») (now «slot_ends») (length (now «slot_weak»)) (length (now «slot_weak»)) kind class start ⌝ }
     ensures { λ r. ⌜ Few (copiedPairs (entry ids) (idsOf (entry codes) (entry «escape_places») (entry «escape_ids») base) start (entry «class_kinds»)
@@ -74,16 +74,16 @@ fn object(
     let first = columns::index(slot_starts[class]);
     let count = columns::index(slot_ends[class]) - first;
     slots(
+        start,
+        first,
+        count,
+        guess,
         ids,
+        slot_weak,
         codes,
         escape_places,
         escape_ids,
         base,
-        start,
-        slot_weak,
-        first,
-        count,
-        guess,
     )
 }
 
@@ -92,15 +92,15 @@ pub fn count_weak_copied(
     ids: &[u64],
     kinds: &[u8],
     classes: &[u32],
-    starts: &[u32],
-    codes: &[u32],
-    escape_places: &[u64],
-    escape_ids: &[u64],
-    base: u64,
     class_kinds: &[u8],
     slot_starts: &[u32],
     slot_ends: &[u32],
     slot_weak: &[u8],
+    codes: &[u32],
+    escape_places: &[u64],
+    escape_ids: &[u64],
+    base: u64,
+    starts: &[u32],
     policy: rules::ReferencePolicy,
 ) -> usize
     requires { ⌜ ObjectsIn (now ids) (now kinds) (now classes) (now starts) × (length (now «slot_weak») ≤ 268435456) ⌝ }
@@ -114,20 +114,20 @@ pub fn count_weak_copied(
     let mut o = 0;
     while o < ids.len() {
         n += object(
-            ids,
-            codes,
-            escape_places,
-            escape_ids,
-            base,
             columns::index(starts[o]),
+            kinds[o],
+            columns::index(classes[o]),
+            o,
+            ids,
             class_kinds,
             slot_starts,
             slot_ends,
             slot_weak,
+            codes,
+            escape_places,
+            escape_ids,
+            base,
             policy,
-            kinds[o],
-            columns::index(classes[o]),
-            o,
         );
         o += 1;
     }

@@ -25,16 +25,16 @@ fn ends_past(offset: u32, size: usize, body: usize) -> bool
 // The pairs of the slots from `first` on of a body that stands from `start` on, of a class whose kind is not kept. "Reading stops at the first slot that
 // ends past the body."
 fn slots(
-    ids: &[u64],
-    bytes: &[u8],
-    size: usize,
     start: usize,
     body: usize,
-    slot_offsets: &[u32],
-    slot_weak: &[u8],
     first: usize,
     count: usize,
     guess: usize,
+    ids: &[u64],
+    slot_offsets: &[u32],
+    slot_weak: &[u8],
+    bytes: &[u8],
+    size: usize,
 ) -> usize
     requires { ⌜ Rises (now ids) × (first + count ≤ length (now «slot_offsets»)) × (first + count ≤ length (now «slot_weak»)) × BodyIn (length (now bytes)) size start body ⌝ }
     ensures { λ r. ⌜ Few (pairsIn (entry ids) (tab (rawSlot (entry bytes) size start (entry «slot_offsets») [] (entry «slot_weak») false first)
@@ -60,20 +60,20 @@ fn slots(
 
 // The pairs of one object.
 fn object(
-    ids: &[u64],
-    bytes: &[u8],
-    size: usize,
     start: usize,
     body: usize,
+    kind: u8,
+    class: usize,
+    guess: usize,
+    ids: &[u64],
     class_kinds: &[u8],
     slot_starts: &[u32],
     slot_ends: &[u32],
     slot_offsets: &[u32],
     slot_weak: &[u8],
+    bytes: &[u8],
+    size: usize,
     policy: rules::ReferencePolicy,
-    kind: u8,
-    class: usize,
-    guess: usize,
 ) -> usize
     requires { ⌜ Rises (now ids) × SlotsIn (now «class_kinds») (now «slot_starts») (now «slot_ends») (length (now «slot_offsets»)) (length (now «slot_weak»)) kind class 0 ⌝ }
     requires { ⌜ (kind ≡ 0 → BodyIn (length (now bytes)) size start body) ⌝ }
@@ -89,16 +89,16 @@ fn object(
     let first = columns::index(slot_starts[class]);
     let count = columns::index(slot_ends[class]) - first;
     slots(
-        ids,
-        bytes,
-        size,
         start,
         body,
-        slot_offsets,
-        slot_weak,
         first,
         count,
         guess,
+        ids,
+        slot_offsets,
+        slot_weak,
+        bytes,
+        size,
     )
 }
 
@@ -107,15 +107,15 @@ pub fn count_weak_raw(
     ids: &[u64],
     kinds: &[u8],
     classes: &[u32],
-    starts: &[u64],
-    bodies: &[u32],
-    bytes: &[u8],
-    size: usize,
     class_kinds: &[u8],
     slot_starts: &[u32],
     slot_ends: &[u32],
     slot_offsets: &[u32],
     slot_weak: &[u8],
+    bytes: &[u8],
+    size: usize,
+    starts: &[u64],
+    bodies: &[u32],
     policy: rules::ReferencePolicy,
 ) -> usize
     requires { ⌜ ObjectsIn (now ids) (now kinds) (now classes) (now starts) × (length (now ids) ≤ length (now bodies)) × (length (now «slot_weak») ≤ 268435456) ⌝ }
@@ -129,20 +129,20 @@ pub fn count_weak_raw(
     let mut o = 0;
     while o < ids.len() {
         n += object(
-            ids,
-            bytes,
-            size,
             starts[o] as usize,
             columns::index(bodies[o]),
+            kinds[o],
+            columns::index(classes[o]),
+            o,
+            ids,
             class_kinds,
             slot_starts,
             slot_ends,
             slot_offsets,
             slot_weak,
+            bytes,
+            size,
             policy,
-            kinds[o],
-            columns::index(classes[o]),
-            o,
         );
         o += 1;
     }

@@ -4,20 +4,20 @@ ghost use mathlib.Core.Path.{_≡_};
 ghost use Rattle.columns.specs.Ranks.{bisect};
 ghost use Rattle.store.specs.Blocked.{longBack, shortBack, offsetSays};
 
-pub(crate) fn long_at(at: &[u32], value: &[u64], i: usize) -> Offset
-    ensures { λ r. ⌜ offsetSays r ≡ longBack (now (at .entry)) (now (value .entry)) i (bisect (now (at .entry)) i) ⌝ }
+pub(crate) fn long_at(long_at: &[u32], long_value: &[u64], i: usize) -> Offset
+    ensures { λ r. ⌜ offsetSays r ≡ longBack (now («long_at» .entry)) (now («long_value» .entry)) i (bisect (now («long_at» .entry)) i) ⌝ }
 {
-    let k = columns::bisect_u32(at, i as u64);
-    if at.len() <= k {
+    let k = columns::bisect_u32(long_at, i as u64);
+    if long_at.len() <= k {
         return Offset::Columns(i);
     }
-    if columns::index(at[k]) != i {
+    if columns::index(long_at[k]) != i {
         return Offset::Columns(i);
     }
-    if value.len() <= k {
+    if long_value.len() <= k {
         return Offset::Columns(i);
     }
-    Offset::Value(value[k])
+    Offset::Value(long_value[k])
 }
 
 pub(crate) fn short_at(bases: &[u64], s: u16, i: usize) -> Offset

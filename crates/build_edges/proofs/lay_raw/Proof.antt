@@ -72,29 +72,29 @@ start c = from-check-raw (at-check-raw c .before)
 
 -- targets
 same-length : tie.Need-same-length
-same-length c = at-edges-raw c .edges-raw .kept .1 .1 .1 .1 .1 .1 .1 .1 .1 .1 .1 .1 .1 .1 .1 .1 .1 .1 .1 .1 .1 .1 .1 .1 .0
+same-length c = at-edges-raw c .edges-raw .kept .1 .1 .1 .1 .1 .1 .1 .1 .1 .1 .1 .1 .1 .1 .1 .1 .1 .1 .1 .1 .1 .1 .1 .0
 
 -- labels
 same-length-2 : tie.Need-same-length-2
-same-length-2 c = at-edges-raw c .edges-raw .kept .1 .1 .1 .1 .1 .1 .1 .1 .1 .1 .1 .1 .1 .1 .1 .1 .1 .1 .1 .1 .1 .1 .1 .1 .1 .0
+same-length-2 c = at-edges-raw c .edges-raw .kept .1 .1 .1 .1 .1 .1 .1 .1 .1 .1 .1 .1 .1 .1 .1 .1 .1 .1 .1 .1 .1 .1 .1 .1 .0
 
 -- weak_from
 same-length-3 : tie.Need-same-length-3
-same-length-3 c = at-edges-raw c .edges-raw .kept .1 .1 .1 .1 .1 .1 .1 .1 .1 .1 .1 .1 .1 .1 .1 .1 .1 .1 .1 .1 .1 .1 .1 .1 .1 .1 .0
+same-length-3 c = at-edges-raw c .edges-raw .kept .1 .1 .1 .1 .1 .1 .1 .1 .1 .1 .1 .1 .1 .1 .1 .1 .1 .1 .1 .1 .1 .1 .1 .1 .1 .0
 
 -- weak_to
 same-length-4 : tie.Need-same-length-4
-same-length-4 c = at-edges-raw c .edges-raw .kept .1 .1 .1 .1 .1 .1 .1 .1 .1 .1 .1 .1 .1 .1 .1 .1 .1 .1 .1 .1 .1 .1 .1 .1 .1 .1 .1 .0
+same-length-4 c = at-edges-raw c .edges-raw .kept .1 .1 .1 .1 .1 .1 .1 .1 .1 .1 .1 .1 .1 .1 .1 .1 .1 .1 .1 .1 .1 .1 .1 .1 .1 .1 .0
 
 -- roots_out
 same-length-5 : tie.Need-same-length-5
-same-length-5 c = at-roots-of c .roots-of .kept .1 .1 .1 .1 .0
+same-length-5 c = at-roots-of c .roots-of .kept .1 .1 .1 .0
 
 -- working
 same-length-6 : tie.Need-same-length-6
 same-length-6 c =
-    at-edges-raw c .edges-raw .kept .1 .1 .1 .1 .1 .1 .1 .1 .1 .1 .1 .1 .1 .1 .1 .1 .1 .1 .1 .1 .1 .1 .1 .0
-    ∙ at-roots-of c .roots-of .kept .1 .1 .1 .0
+    at-edges-raw c .edges-raw .kept .1 .1 .1 .1 .1 .1 .1 .1 .1 .1 .1 .1 .1 .1 .1 .1 .1 .1 .1 .1 .1 .1 .1 .1 .1 .1 .1 .0
+    ∙ at-roots-of c .roots-of .kept .1 .1 .1 .1 .0
     ∙ at-check-raw c .check-raw .kept .1 .1 .1 .1 .1 .1 .1 .1 .1 .1 .1 .1 .1 .1 .1 .1 .1 .1 .1 .1 .1 .1 .1 .1 .1 .0
 
 -- the input that the call began with
@@ -146,7 +146,7 @@ staged : (b : tie.After-begin)
     → (let s = begun (checks-at b) in
     Staged (input s) (s .args .bases) (length (now (s .args .short))) (rooms-at b .first-rooms .result)
     (now (s .args .targets)) (now (s .args .labels)) (now (s .args .weak-from)) (now (s .args .weak-to)) (now (s .args .roots-out)) (now (s .args .working))
-    (roots-at b .roots-of .last .1 .1 .1 .0) (roots-at b .roots-of .last .1 .1 .1 .1 .0))
+    (roots-at b .roots-of .last .1 .1 .1 .1 .0) (roots-at b .roots-of .last .1 .1 .1 .0))
 staged b =
     let f = checks-at b in
     record {
@@ -159,9 +159,9 @@ staged b =
       weak = λ ok. rw (Pairs.weak-raw (input (begun f)) _ refl) (weak-at b .weak-raw .ensures ok);
       rooted = roots-at b .roots-of .ensures;
       working-kept =
-          roots-at b .roots-of .kept .1 .1 .1 .0
+          roots-at b .roots-of .kept .1 .1 .1 .1 .0
           ∙ f .check-raw .kept .1 .1 .1 .1 .1 .1 .1 .1 .1 .1 .1 .1 .1 .1 .1 .1 .1 .1 .1 .1 .1 .1 .1 .1 .1 .0;
-      roots-kept = roots-at b .roots-of .kept .1 .1 .1 .1 .0;
+      roots-kept = roots-at b .roots-of .kept .1 .1 .1 .0;
       rooms = rooms-at b .first-rooms .ensures;
     }
 

@@ -16,7 +16,7 @@ returns : tie.Need-returns
 unfolding escapeFault
 returns c =
     let a = c .before .before .args in
-    let p = a .places .now ! a .k in
+    let p = a .escape-places .now ! a .k in
     two-first _ _ (ap not (ne-eqb (a .codes .now ! p) ESCAPED (λ e. omega (arith, past-end (a .codes .now) p (c .if1 .taken)))))
 
 returns-2 : tie.Need-returns-2

@@ -20,7 +20,7 @@ use Rattle.check_ids.proofs.copied.first_copied.Tie as tie
 
 -- the columns that are tested
 abbrev columns : tie.Start → Ids
-columns s = let a = s .args in idColumns (a .codes .now) (a .places .now) (a .ids .now) (a .base)
+columns s = let a = s .args in idColumns (a .codes .now) (a .escape-places .now) (a .escape-ids .now) (a .base)
 
 -- behind the test of the escapes
 abbrev behind : tie.Else1 → Ids

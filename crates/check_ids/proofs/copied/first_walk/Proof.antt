@@ -22,7 +22,7 @@ abbrev μ-loop : tie.MeasureT-loop
 
 -- the columns that are walked
 abbrev columns : tie.After-shared-slice-known3 Inv-loop μ-loop → Ids
-columns c = let a = c .before .before .before .args in idColumns (a .codes .now) (a .places .now) (a .ids .now) (a .base)
+columns c = let a = c .before .before .before .args in idColumns (a .codes .now) (a .escape-places .now) (a .escape-ids .now) (a .base)
 
 abbrev from-code-fault : tie.After-code-fault Inv-loop μ-loop → tie.Start Inv-loop μ-loop
 from-code-fault c =
@@ -58,7 +58,7 @@ rows-on-requires : tie.Need-rows-on-requires Inv-loop μ-loop
 rows-on-requires c κs =
     let l = c .before .before .before .before .before .before .before .before in
     let s = l .before .before .before .before in
-    omega (arith, l .loop .inv .passed, rank-within (s .args .places .now) (l .loop .p), s .good)
+    omega (arith, l .loop .inv .passed, rank-within (s .args .escape-places .now) (l .loop .p), s .good)
 
 loop-again : tie.Need-loop-again Inv-loop μ-loop
 loop-again c =

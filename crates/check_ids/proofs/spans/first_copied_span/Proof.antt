@@ -12,23 +12,23 @@ use Rattle.check_ids.proofs.spans.first_copied_span.Statement.{statemen
 use Rattle.check_ids.proofs.spans.first_copied_span.Tie as tie
 
 abbrev Inv-loop : tie.InvT-loop
-Inv-loop kinds classes lengths starts slot-starts slot-ends codes o₀ o = Searching (badSpan (copiedSpans kinds classes lengths starts slot-starts slot-ends codes)) (length kinds) o
+Inv-loop kinds classes lengths slot-starts slot-ends codes starts o₀ o = Searching (badSpan (copiedSpans kinds classes lengths slot-starts slot-ends codes starts)) (length kinds) o
 
 abbrev μ-loop : tie.MeasureT-loop
-μ-loop kinds classes lengths starts slot-starts slot-ends codes o₀ o = length kinds - o
+μ-loop kinds classes lengths slot-starts slot-ends codes starts o₀ o = length kinds - o
 
 abbrev from-copied-fault : tie.After-copied-fault Inv-loop μ-loop → tie.Start Inv-loop μ-loop
 from-copied-fault c =
     c .before .before .before .before .before .before .before .before .before .before .before .before .before .before .before .before
 
 bad : (c : tie.After-copied-fault Inv-loop μ-loop) → let a = from-copied-fault c .args in badSpan
-    (copiedSpans (a .kinds .now) (a .classes .now) (a .lengths .now) (a .starts .now) (a .slot-starts .now) (a .slot-ends .now) (a .codes .now))
+    (copiedSpans (a .kinds .now) (a .classes .now) (a .lengths .now) (a .slot-starts .now) (a .slot-ends .now) (a .codes .now) (a .starts .now))
     (c .before .before .before .before .before .before .before .before .loop .o) ≡ c .copied-fault .result
 bad c =
     let at-part-of = c .before .before .before in
     let l = at-part-of .before .before .before .before .before in
     let a = from-copied-fault c .args in
-    copied-span-fault (a .kinds .now) (a .classes .now) (a .lengths .now) (a .starts .now) (a .slot-starts .now) (a .slot-ends .now) (a .codes .now) (l .loop .o)
+    copied-span-fault (a .kinds .now) (a .classes .now) (a .lengths .now) (a .slot-starts .now) (a .slot-ends .now) (a .codes .now) (a .starts .now) (l .loop .o)
     ∙ sym (c .copied-fault .ensures ∙ ap (λ (n : ℕ). copiedSpanFault (a .kinds .now ! l .loop .o) (a .starts .now ! l .loop .o) n (length (a .codes .now)))
     (at-part-of .part-of .ensures))
 

@@ -11,10 +11,10 @@ use Rattle.check_ids.proofs.spans.first_raw_span.Statement.{statement}
 use Rattle.check_ids.proofs.spans.first_raw_span.Tie as tie
 
 abbrev Inv-loop : tie.InvT-loop
-Inv-loop kinds lengths starts bodies bytes size o₀ o = Searching (badSpan (rawSpans kinds lengths starts bodies bytes size)) (length kinds) o
+Inv-loop kinds lengths bytes size starts bodies o₀ o = Searching (badSpan (rawSpans kinds lengths bytes size starts bodies)) (length kinds) o
 
 abbrev μ-loop : tie.MeasureT-loop
-μ-loop kinds lengths starts bodies bytes size o₀ o = length kinds - o
+μ-loop kinds lengths bytes size starts bodies o₀ o = length kinds - o
 
 loop-holds : tie.Need-loop-holds Inv-loop μ-loop
 loop-holds c = searching-start _ _

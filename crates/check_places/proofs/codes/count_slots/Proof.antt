@@ -11,10 +11,10 @@ use Rattle.check_places.proofs.codes.count_slots.Statement.{statement}
 use Rattle.check_places.proofs.codes.count_slots.Tie as tie
 
 abbrev Inv-loop : tie.InvT-loop
-Inv-loop codes slot-weak kept start first n sum₀ k₀ sum k = (k ≤ n) × (sum ≡ total (oneSlot codes slot-weak kept start first) k) × (sum ≤ k)
+Inv-loop kept start first n slot-weak codes sum₀ k₀ sum k = (k ≤ n) × (sum ≡ total (oneSlot codes slot-weak kept start first) k) × (sum ≤ k)
 
 abbrev μ-loop : tie.MeasureT-loop
-μ-loop codes slot-weak kept start first n sum₀ k₀ sum k = n - k
+μ-loop kept start first n slot-weak codes sum₀ k₀ sum k = n - k
 
 small : (c : tie.After-one-slot Inv-loop μ-loop) → c .one-slot .result ≤ 1
 small c =

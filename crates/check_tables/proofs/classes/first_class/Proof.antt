@@ -48,7 +48,7 @@ ranges c =
     let at-row-fault = at-if2 .before in
     let at-check = at-row-fault .before .before .before .before .before .before .before .before in
     let a = from-index2 c .args in
-    let s = schemaColumns (a .dumped .now) (a .kinds .now) (a .slot-starts .now) (a .slot-ends .now) (a .static-starts .now) (a .static-ends .now) (a .slot-offsets .now)
+    let s = schemaColumns (a .dumped .now) (a .class-kinds .now) (a .slot-starts .now) (a .slot-ends .now) (a .static-starts .now) (a .static-ends .now) (a .slot-offsets .now)
     (a .slot-labels .now) (a .slot-weak .now) (a .static-names .now) (a .static-types .now) (a .names) in
     let r = row-ranges s (at-check .check .class) (sym (at-row-fault .row-fault .ensures) ∙ at-if2 .if2 .left) in
     (rw (c .before .before .index .ensures) (r .1), r .2, r .3)
@@ -59,7 +59,7 @@ check-holds c = searching-start _ _
 loop-holds : tie.Need-loop-holds Inv-loop μ-loop Inv-check μ-check
 loop-holds c =
     let a = c .before .before .before .before .before .before .before .before .before .before .before .before .before .before .before .before .before .before .before .before .before .before .before .before .before .args in
-    let s = schemaColumns (a .dumped .now) (a .kinds .now) (a .slot-starts .now) (a .slot-ends .now) (a .static-starts .now) (a .static-ends .now) (a .slot-offsets .now) (a .slot-labels .now) (a .slot-weak .now) (a .static-names .now) (a .static-types .now) (a .names) in
+    let s = schemaColumns (a .dumped .now) (a .class-kinds .now) (a .slot-starts .now) (a .slot-ends .now) (a .static-starts .now) (a .static-ends .now) (a .slot-offsets .now) (a .slot-labels .now) (a .slot-weak .now) (a .static-names .now) (a .static-types .now) (a .names) in
     let r = row-ranges s (c .before .before .before .before .before .before .before .before .before .before .before .before .before .check .class) (sym (c .before .before .before .before .before .row-fault .ensures) ∙ c .before .before .before .before .if2 .left) in
     rw (c .index2 .ensures) (passing-start _ _ _ (r .0), rw (sub-self (a .slot-starts .now ! c .before .before .before .before .before .before .before .before .before .before .before .before .before .check .class)))
 
@@ -108,7 +108,7 @@ loop-again c =
     let at-check = at-index .before .before .before .before .before .before .before .before .before .before .before in
     let s2 = at-check .before .before .before .before .before .before .before .before .before .before .before .before in
     let a = s2 .args in
-    let s = schemaColumns (a .dumped .now) (a .kinds .now) (a .slot-starts .now) (a .slot-ends .now) (a .static-starts .now) (a .static-ends .now) (a .slot-offsets .now)
+    let s = schemaColumns (a .dumped .now) (a .class-kinds .now) (a .slot-starts .now) (a .slot-ends .now) (a .static-starts .now) (a .static-ends .now) (a .slot-offsets .now)
     (a .slot-labels .now) (a .slot-weak .now) (a .static-names .now) (a .static-types .now) (a .names) in
     let start = a .slot-starts .now ! at-check .check .class in
     let e : start + (l .loop .slot - start) ≡ l .loop .slot = omega (arith, l .loop .inv .0 .low) in
@@ -143,7 +143,7 @@ check-again c =
     let at-check = at-if1 .before in
     let s2 = at-check .before .before .before .before .before .before .before .before .before .before .before .before in
     let a = s2 .args in
-    let s = schemaColumns (a .dumped .now) (a .kinds .now) (a .slot-starts .now) (a .slot-ends .now) (a .static-starts .now) (a .static-ends .now) (a .slot-offsets .now)
+    let s = schemaColumns (a .dumped .now) (a .class-kinds .now) (a .slot-starts .now) (a .slot-ends .now) (a .static-starts .now) (a .static-ends .now) (a .slot-offsets .now)
     (a .slot-labels .now) (a .slot-weak .now) (a .static-names .now) (a .static-types .now) (a .names) in
     let slots = passing-end _ _ _ (l .loop .inv .0) (omega (arith, i .loop-test .left, at-index .index .ensures)) in
     let statics = sym (static-faults s (at-check .check .class) _ _ (at-index3 .index3 .ensures) (c .before .before .index4 .ensures)) ∙ sym (c .before .statics-fault .ensures)
@@ -160,7 +160,7 @@ returns-2 c =
     let at-check = at-if1 .before in
     let s2 = at-check .before .before .before .before .before .before .before .before .before .before .before .before in
     let a = s2 .args in
-    let s = schemaColumns (a .dumped .now) (a .kinds .now) (a .slot-starts .now) (a .slot-ends .now) (a .static-starts .now) (a .static-ends .now) (a .slot-offsets .now)
+    let s = schemaColumns (a .dumped .now) (a .class-kinds .now) (a .slot-starts .now) (a .slot-ends .now) (a .static-starts .now) (a .static-ends .now) (a .slot-offsets .now)
     (a .slot-labels .now) (a .slot-weak .now) (a .static-names .now) (a .static-types .now) (a .names) in
     searching-hit _ _ (at-check .check .inv) (at-if1 .if1 .left) (row-hit s (at-check .check .class) (sym (c .before .row-fault .ensures) ∙ c .if2 .taken))
 
@@ -176,7 +176,7 @@ returns-3 c =
     let at-check = at-if1 .before in
     let s2 = at-check .before .before .before .before .before .before .before .before .before .before .before .before in
     let a = s2 .args in
-    let s = schemaColumns (a .dumped .now) (a .kinds .now) (a .slot-starts .now) (a .slot-ends .now) (a .static-starts .now) (a .static-ends .now) (a .slot-offsets .now)
+    let s = schemaColumns (a .dumped .now) (a .class-kinds .now) (a .slot-starts .now) (a .slot-ends .now) (a .static-starts .now) (a .static-ends .now) (a .slot-offsets .now)
     (a .slot-labels .now) (a .slot-weak .now) (a .static-names .now) (a .static-types .now) (a .names) in
     let start = a .slot-starts .now ! at-check .check .class in
     let e : start + (l .loop .slot - start) ≡ l .loop .slot = omega (arith, l .loop .inv .0 .low) in
@@ -201,7 +201,7 @@ returns-4 c =
     let at-check = at-if1 .before in
     let s2 = at-check .before .before .before .before .before .before .before .before .before .before .before .before in
     let a = s2 .args in
-    let s = schemaColumns (a .dumped .now) (a .kinds .now) (a .slot-starts .now) (a .slot-ends .now) (a .static-starts .now) (a .static-ends .now) (a .slot-offsets .now)
+    let s = schemaColumns (a .dumped .now) (a .class-kinds .now) (a .slot-starts .now) (a .slot-ends .now) (a .static-starts .now) (a .static-ends .now) (a .slot-offsets .now)
     (a .slot-labels .now) (a .slot-weak .now) (a .static-names .now) (a .static-types .now) (a .names) in
     let slots = passing-end _ _ _ (l .loop .inv .0) (omega (arith, i .loop-test .left, at-index .index .ensures)) in
     searching-hit _ _ (at-check .check .inv) (at-if1 .if1 .left) (static-hit s (at-check .check .class) (sym (at-row-fault .row-fault .ensures) ∙ at-if2 .if2 .left) (sym slots)

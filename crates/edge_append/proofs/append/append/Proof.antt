@@ -66,8 +66,8 @@ slice-write-labels c = omega (arith, one-room (an-edge c) (c .before .before .be
 absorb-found-requires : tie.Need-absorb-found-requires
 absorb-found-requires c κs = omega (arith, one-room (an-edge c) (c .before .before .before .before .before .before .before .before .before .before .before .before .pre) .0)
 
-slice-write-weak : tie.Need-slice-write-weak
-slice-write-weak c = omega (arith, one-room (a-weak c) (c .before .before .before .before .before .before .before .before .before .before .before .before .pre) .2)
+slice-write-weak-to : tie.Need-slice-write-weak-to
+slice-write-weak-to c = omega (arith, one-room (a-weak c) (c .before .before .before .before .before .before .before .before .before .before .before .before .pre) .2)
 
 absorb-weak-requires : tie.Need-absorb-weak-requires
 absorb-weak-requires c κs = omega (arith, one-room (a-weak c) (c .before .before .before .before .before .before .before .before .before .before .before .before .pre) .2)
@@ -110,7 +110,7 @@ append-spec =
     returns-2
     narrow-requires-2
     (λ c. search needs)
-    slice-write-weak
+    slice-write-weak-to
     absorb-weak-requires
     (λ c. search needs)
     absorb-missing-requires

@@ -17,10 +17,10 @@ use Rattle.edge_pass.proofs.raw.walk_raw.Tie as tie
 
 abbrev Inv-loop : tie.InvT-loop
 Inv-loop
-    first count policy kinds classes lengths starts bodies working₀ ids bytes size
-    class-kinds slot-starts slot-ends slot-offsets slot-labels slot-weak loaders static-starts static-ends static-names static-types static-values short scale
-    targets₀ labels₀ weak-from₀ weak-to₀ account₀ s₀ k₀
-    working targets labels weak-from weak-to account s k =
+    first count ids kinds classes lengths loaders class-kinds slot-starts slot-ends static-starts static-ends
+    slot-offsets slot-labels slot-weak static-names static-types static-values bytes size starts bodies policy short scale
+    targets₀ labels₀ weak-from₀ weak-to₀ working₀ account₀ s₀ k₀
+    targets labels weak-from weak-to working account s k =
     let x =
     passInput
     (objectTable (λ (l : List ℕ). l) ids kinds classes lengths)
@@ -35,10 +35,10 @@ Inv-loop
 
 abbrev μ-loop : tie.MeasureT-loop
 μ-loop
-    first count policy kinds classes lengths starts bodies working₀ ids bytes size
-    class-kinds slot-starts slot-ends slot-offsets slot-labels slot-weak loaders static-starts static-ends static-names static-types static-values short scale
-    targets₀ labels₀ weak-from₀ weak-to₀ account₀ s₀ k₀
-    working targets labels weak-from weak-to account s k =
+    first count ids kinds classes lengths loaders class-kinds slot-starts slot-ends static-starts static-ends
+    slot-offsets slot-labels slot-weak static-names static-types static-values bytes size starts bodies policy short scale
+    targets₀ labels₀ weak-from₀ weak-to₀ working₀ account₀ s₀ k₀
+    targets labels weak-from weak-to working account s k =
     count - k
 
 abbrev before-loop : tie.After-slice-known5 Inv-loop μ-loop → tie.Start Inv-loop μ-loop
@@ -97,23 +97,23 @@ loop-again c =
 
 same-length : tie.Need-same-length Inv-loop μ-loop
 same-length c =
-    walked-working (c .before .loop .inv .1 .0)
+    walked-targets (c .before .loop .inv .1 .0)
 
 same-length-2 : tie.Need-same-length-2 Inv-loop μ-loop
 same-length-2 c =
-    walked-targets (c .before .loop .inv .1 .0)
+    walked-labels (c .before .loop .inv .1 .0)
 
 same-length-3 : tie.Need-same-length-3 Inv-loop μ-loop
 same-length-3 c =
-    walked-labels (c .before .loop .inv .1 .0)
+    walked-objects (c .before .loop .inv .1 .0)
 
 same-length-4 : tie.Need-same-length-4 Inv-loop μ-loop
 same-length-4 c =
-    walked-objects (c .before .loop .inv .1 .0)
+    walked-weak (c .before .loop .inv .1 .0)
 
 same-length-5 : tie.Need-same-length-5 Inv-loop μ-loop
 same-length-5 c =
-    walked-weak (c .before .loop .inv .1 .0)
+    walked-working (c .before .loop .inv .1 .0)
 
 returns : tie.Need-returns Inv-loop μ-loop
 returns c =

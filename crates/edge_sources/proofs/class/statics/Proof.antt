@@ -10,10 +10,10 @@ use Rattle.edge_sources.proofs.class.statics.Statement.{statement}
 use Rattle.edge_sources.proofs.class.statics.Tie as tie
 
 abbrev Inv-loop : tie.InvT-loop
-Inv-loop ids names types values first count hints scale targets₀ labels₀ weak₀ s₀ k₀ targets labels weak s k = (k ≤ count) × Appended ids (collect (staticFrom names types values first) k) s₀ s targets₀ labels₀ weak₀ targets labels weak
+Inv-loop first count ids names types values hints scale targets₀ labels₀ weak₀ s₀ k₀ targets labels weak s k = (k ≤ count) × Appended ids (collect (staticFrom names types values first) k) s₀ s targets₀ labels₀ weak₀ targets labels weak
 
 abbrev μ-loop : tie.MeasureT-loop
-μ-loop ids names types values first count hints scale targets₀ labels₀ weak₀ s₀ k₀ targets labels weak s k = count - k
+μ-loop first count ids names types values hints scale targets₀ labels₀ weak₀ s₀ k₀ targets labels weak s k = count - k
 
 loop-holds : tie.Need-loop-holds Inv-loop μ-loop
 loop-holds c = (search needs, appended-none)

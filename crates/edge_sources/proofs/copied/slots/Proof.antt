@@ -12,12 +12,12 @@ use Rattle.edge_sources.proofs.copied.slots.Statement.{statement}
 use Rattle.edge_sources.proofs.copied.slots.Tie as tie
 
 abbrev Inv-loop : tie.InvT-loop
-Inv-loop ids codes escape-places escape-ids base start row slot-labels slot-weak keeps first count hints scale targets₀ labels₀ weak₀ s₀ cursor₀ k₀ targets labels weak s cursor k =
+Inv-loop start row keeps first count ids slot-labels slot-weak codes escape-places escape-ids base hints scale targets₀ labels₀ weak₀ s₀ cursor₀ k₀ targets labels weak s cursor k =
     (k ≤ count) × Appended ids (tab (copiedSlot (idsOf codes escape-places escape-ids base) start slot-labels slot-weak keeps first) k) s₀ s targets₀ labels₀ weak₀
     targets labels weak
 
 abbrev μ-loop : tie.MeasureT-loop
-μ-loop ids codes escape-places escape-ids base start row slot-labels slot-weak keeps first count hints scale targets₀ labels₀ weak₀ s₀ cursor₀ k₀ targets labels weak s cursor k = count - k
+μ-loop start row keeps first count ids slot-labels slot-weak codes escape-places escape-ids base hints scale targets₀ labels₀ weak₀ s₀ cursor₀ k₀ targets labels weak s cursor k = count - k
 
 loop-holds : tie.Need-loop-holds Inv-loop μ-loop
 loop-holds c = (search needs, tab-none _)

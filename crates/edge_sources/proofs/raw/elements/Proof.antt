@@ -14,10 +14,10 @@ use Rattle.edge_sources.proofs.raw.elements.Statement.{statement}
 use Rattle.edge_sources.proofs.raw.elements.Tie as tie
 
 abbrev Inv-loop : tie.InvT-loop
-Inv-loop ids bytes size start count hints scale targets₀ labels₀ weak₀ s₀ at₀ k₀ targets labels weak s at k = (k ≤ count) × (at ≡ start + k * size) × Appended ids (tab (rawElement bytes size start) k) s₀ s targets₀ labels₀ weak₀ targets labels weak
+Inv-loop start count ids bytes size hints scale targets₀ labels₀ weak₀ s₀ at₀ k₀ targets labels weak s at k = (k ≤ count) × (at ≡ start + k * size) × Appended ids (tab (rawElement bytes size start) k) s₀ s targets₀ labels₀ weak₀ targets labels weak
 
 abbrev μ-loop : tie.MeasureT-loop
-μ-loop ids bytes size start count hints scale targets₀ labels₀ weak₀ s₀ at₀ k₀ targets labels weak s at k = count - k
+μ-loop start count ids bytes size hints scale targets₀ labels₀ weak₀ s₀ at₀ k₀ targets labels weak s at k = count - k
 
 loop-holds : tie.Need-loop-holds Inv-loop μ-loop
 loop-holds c = (search needs, omega arith, tab-none _)

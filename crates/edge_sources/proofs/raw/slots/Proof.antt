@@ -12,11 +12,11 @@ use Rattle.edge_sources.proofs.raw.slots.Statement.{statement}
 use Rattle.edge_sources.proofs.raw.slots.Tie as tie
 
 abbrev Inv-loop : tie.InvT-loop
-Inv-loop ids bytes size start body slot-offsets slot-labels slot-weak keeps first count hints scale targets₀ labels₀ weak₀ s₀ k₀ targets labels weak s k =
+Inv-loop start body keeps first count ids slot-offsets slot-labels slot-weak bytes size hints scale targets₀ labels₀ weak₀ s₀ k₀ targets labels weak s k =
     (k ≤ count) × (slotsRead slot-offsets size body first k ≡ k) × Appended ids (tab (rawSlot bytes size start slot-offsets slot-labels slot-weak keeps first) k) s₀ s targets₀ labels₀ weak₀ targets labels weak
 
 abbrev μ-loop : tie.MeasureT-loop
-μ-loop ids bytes size start body slot-offsets slot-labels slot-weak keeps first count hints scale targets₀ labels₀ weak₀ s₀ k₀ targets labels weak s k = count - k
+μ-loop start body keeps first count ids slot-offsets slot-labels slot-weak bytes size hints scale targets₀ labels₀ weak₀ s₀ k₀ targets labels weak s k = count - k
 
 -- slot k ends within the body
 ends : (c : tie.Else1 Inv-loop μ-loop) → c .before .before .before .before .before .before .before .before .before .before .before .before .before

@@ -11,11 +11,11 @@ use Rattle.need_weak.proofs.copied.count_weak_copied.Statement.{stateme
 use Rattle.need_weak.proofs.copied.count_weak_copied.Tie as tie
 
 abbrev Inv-loop : tie.InvT-loop
-Inv-loop ids kinds classes starts codes escape-places escape-ids base class-kinds slot-start slot-end slot-weak policy n₀ o₀ n o =
+Inv-loop ids kinds classes class-kinds slot-start slot-end slot-weak codes escape-places escape-ids base starts policy n₀ o₀ n o =
     (o ≤ length ids) × (n ≤ o * 268435456) × (n ≡ copiedTotal ids kinds classes starts (idsOf codes escape-places escape-ids base) class-kinds slot-start slot-end slot-weak policy o)
 
 abbrev μ-loop : tie.MeasureT-loop
-μ-loop ids kinds classes starts codes escape-places escape-ids base class-kinds slot-start slot-end slot-weak policy n₀ o₀ n o = length ids - o
+μ-loop ids kinds classes class-kinds slot-start slot-end slot-weak codes escape-places escape-ids base starts policy n₀ o₀ n o = length ids - o
 
 loop-holds : tie.Need-loop-holds Inv-loop μ-loop
 unfolding copiedTotal

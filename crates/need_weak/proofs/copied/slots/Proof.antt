@@ -16,10 +16,10 @@ use Rattle.need_weak.proofs.copied.slots.Statement.{statement}
 use Rattle.need_weak.proofs.copied.slots.Tie as tie
 
 abbrev Inv-loop : tie.InvT-loop
-Inv-loop ids codes escape-places escape-ids base start slot-weak first count guess n₀ k₀ n k = (k ≤ count) × (n ≤ k) × (n ≡ pairsIn ids (tab (copiedSlot (idsOf codes escape-places escape-ids base) start [] slot-weak false first) k))
+Inv-loop start first count guess ids slot-weak codes escape-places escape-ids base n₀ k₀ n k = (k ≤ count) × (n ≤ k) × (n ≡ pairsIn ids (tab (copiedSlot (idsOf codes escape-places escape-ids base) start [] slot-weak false first) k))
 
 abbrev μ-loop : tie.MeasureT-loop
-μ-loop ids codes escape-places escape-ids base start slot-weak first count guess n₀ k₀ n k = count - k
+μ-loop start first count guess ids slot-weak codes escape-places escape-ids base n₀ k₀ n k = count - k
 
 loop-holds : tie.Need-loop-holds Inv-loop μ-loop
 loop-holds c = (search needs, search needs, pairs-none _ _)

@@ -10,11 +10,11 @@ use Rattle.need_weak.proofs.raw.count_weak_raw.Statement.{statement}
 use Rattle.need_weak.proofs.raw.count_weak_raw.Tie as tie
 
 abbrev Inv-loop : tie.InvT-loop
-Inv-loop ids kinds classes starts bodies bytes size class-kinds slot-start slot-end slot-offsets slot-weak policy n₀ o₀ n o =
+Inv-loop ids kinds classes class-kinds slot-start slot-end slot-offsets slot-weak bytes size starts bodies policy n₀ o₀ n o =
     (o ≤ length ids) × (n ≤ o * 268435456) × (n ≡ rawTotal ids kinds classes starts bodies bytes size class-kinds slot-start slot-end slot-offsets slot-weak policy o)
 
 abbrev μ-loop : tie.MeasureT-loop
-μ-loop ids kinds classes starts bodies bytes size class-kinds slot-start slot-end slot-offsets slot-weak policy n₀ o₀ n o = length ids - o
+μ-loop ids kinds classes class-kinds slot-start slot-end slot-offsets slot-weak bytes size starts bodies policy n₀ o₀ n o = length ids - o
 
 loop-holds : tie.Need-loop-holds Inv-loop μ-loop
 unfolding rawTotal

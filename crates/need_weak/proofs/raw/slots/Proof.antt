@@ -15,11 +15,11 @@ use Rattle.need_weak.proofs.raw.slots.Statement.{statement}
 use Rattle.need_weak.proofs.raw.slots.Tie as tie
 
 abbrev Inv-loop : tie.InvT-loop
-Inv-loop ids bytes size start body slot-offsets slot-weak first count guess n₀ k₀ n k =
+Inv-loop start body first count guess ids slot-offsets slot-weak bytes size n₀ k₀ n k =
     (k ≤ count) × (n ≤ k) × (slotsRead slot-offsets size body first k ≡ k) × (n ≡ pairsIn ids (tab (rawSlot bytes size start slot-offsets [] slot-weak false first) k))
 
 abbrev μ-loop : tie.MeasureT-loop
-μ-loop ids bytes size start body slot-offsets slot-weak first count guess n₀ k₀ n k = count - k
+μ-loop start body first count guess ids slot-offsets slot-weak bytes size n₀ k₀ n k = count - k
 
 -- slot k ends within the body
 ends : (c : tie.Else1 Inv-loop μ-loop) → let a = c .before .before .before .before .before .before .before .before .before .args in a .slot-offsets .now ! (a .first + c .before .before .before .before .loop .k) + a .size ≤ a .body
