@@ -10,7 +10,7 @@ use Rattle.rules.specs.Input.{Input, foundAt}
 use Rattle.rules.specs.Verdict.{badDumped, badClass, badSlot, badStatic, badFind, foundBadly}
 use Rattle.check_tables.specs.Reads.{schemaColumns}
 use Rattle.check_tables.specs.Found.{findColumns}
-use Rattle.check_input.specs.Flat.{dumpedColumns}
+use Rattle.check_whole.specs.Whole.{dumpedColumns}
 
 -- where a class is found depends on four columns
 pub same-find : (x : Input) (c : ℕ) → badFind x c ≡ badFind (findColumns (x .objects .ids) (x .objects .kinds) (x .schema .classes .ids) (x .schema .classes .dumped)) c

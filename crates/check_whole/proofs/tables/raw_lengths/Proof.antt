@@ -1,10 +1,10 @@
--- `check_input::tables::raw_lengths` meets its contract: test by test. Assumes nothing.
+-- `check_whole::tables::raw_lengths` meets its contract: test by test. Assumes nothing.
 use mathlib.Core.Path.{sym, _∙_}
 use Rattle.rules.specs.Verdict.{badLengths, routeLengths, schemaLengths}
 use Rattle.check_tables.proofs.Even.{three-first, three-second, three-third, three-none}
 use borrow.Author.Needs.{needs}
-use Rattle.check_input.proofs.tables.raw_lengths.Statement.{statement}
-use Rattle.check_input.proofs.tables.raw_lengths.Tie as tie
+use Rattle.check_whole.proofs.tables.raw_lengths.Statement.{statement}
+use Rattle.check_whole.proofs.tables.raw_lengths.Tie as tie
 
 returns : tie.Need-returns
 unfolding badLengths

@@ -10,13 +10,13 @@ ghost use Rattle.rules.specs.Tables.{objectTable, classTable, slotTable, static
 ghost use Rattle.rules.specs.Verdict.{badLengths, badDumped, badFind};
 ghost use Rattle.check_tables.specs.Reads.{Tables, noPolicy};
 ghost use Rattle.check_tables.specs.Found.{marksIf, findColumns};
-ghost use Rattle.check_input.specs.Flat.{bodiesOnly, dumpedColumns};
+ghost use Rattle.check_whole.specs.Whole.{bodiesOnly, dumpedColumns};
 use check_tables::classes;
 use check_tables::found;
 use check_tables::lengths;
 
 // Whether columns of one table differ in length.
-pub(crate) fn copied_lengths(
+pub fn copied_lengths(
     ids: &[u64],
     kinds: &[u8],
     classes: &[u32],
@@ -77,7 +77,7 @@ pub(crate) fn copied_lengths(
 }
 
 // Whether columns of one table differ in length.
-pub(crate) fn raw_lengths(
+pub fn raw_lengths(
     ids: &[u64],
     kinds: &[u8],
     classes: &[u32],
@@ -133,7 +133,7 @@ pub(crate) fn raw_lengths(
 }
 
 // The first class at fault, by its own tables or by where it is found; or the number of classes.
-pub(crate) fn first_dumped(
+pub fn first_dumped(
     ids: &[u64],
     kinds: &[u8],
     class_ids: &[u64],

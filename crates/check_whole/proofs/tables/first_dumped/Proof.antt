@@ -1,17 +1,17 @@
--- `check_input::tables::first_dumped` meets its contract: the lower of the two. Assumes nothing.
+-- `check_whole::tables::first_dumped` meets its contract: the lower of the two. Assumes nothing.
 use mathlib.Core.Path.{refl, sym, ap, _∙_}
 use lib.ListN.{length}
 use Rattle.rules.specs.Input.{foundAt}
 use Rattle.rules.specs.Verdict.{badDumped, badClass, badSlot, badStatic, badFind}
 use Rattle.check_tables.specs.Reads.{schemaColumns}
 use Rattle.check_tables.specs.Found.{findColumns, marksIf}
-use Rattle.check_input.specs.Flat.{dumpedColumns}
-use Rattle.check_input.proofs.Either.{either-first, either-second}
-use Rattle.check_input.proofs.Narrow.{dumped-both}
+use Rattle.check_whole.specs.Whole.{dumpedColumns}
+use Rattle.check_whole.proofs.Either.{either-first, either-second}
+use Rattle.check_whole.proofs.Narrow.{dumped-both}
 use Rattle.check_tables.proofs.Marks.{marksIf-same}
 use borrow.Author.Needs.{needs}
-use Rattle.check_input.proofs.tables.first_dumped.Statement.{statement}
-use Rattle.check_input.proofs.tables.first_dumped.Tie as tie
+use Rattle.check_whole.proofs.tables.first_dumped.Statement.{statement}
+use Rattle.check_whole.proofs.tables.first_dumped.Tie as tie
 
 first-find-requires : tie.Need-first-find-requires
 first-find-requires c κs =

@@ -1,9 +1,9 @@
--- `check_input::count::limited` meets its contract: by the limit. Assumes nothing.
+-- `check_whole::limited` meets its contract: by the limit. Assumes nothing.
 use borrow.Author.Tests.{lt-ltb, le-ltb}
-use Rattle.check_input.specs.Flat.{limitSays}
+use Rattle.check_whole.specs.Whole.{limitSays}
 use borrow.Author.Needs.{needs}
-use Rattle.check_input.proofs.count.limited.Statement.{statement}
-use Rattle.check_input.proofs.count.limited.Tie as tie
+use Rattle.check_whole.proofs.limited.Statement.{statement}
+use Rattle.check_whole.proofs.limited.Tie as tie
 
 returns : tie.Need-returns
 unfolding limitSays
