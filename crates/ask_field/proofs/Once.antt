@@ -18,7 +18,7 @@ use Rattle.rules.specs.Types.{LOADER, ARRAY-ELEMENT}
 use Rattle.rules.specs.Labels.{occurring, listed, ranked, fieldsOf, fieldCode}
 use Rattle.labels.specs.Fields.{firstRanked}
 use Rattle.labels.proofs.Table.{slot-other}
-use Rattle.labels.proofs.Ranking.{occurring-rises}
+use Rattle.labels.proofs.Occurring.{occurring-rises}
 use Rattle.labels.proofs.Listed.{fields-listed, fields-ranked, fields-named}
 
 -- no number stands twice

@@ -2,23 +2,21 @@
 use Prim.Native.Nat.{ℕ, suc}
 use mathlib.Core.Path.{_≡_, _∙_}
 use mathlib.Core.Bool.{true}
-use mathlib.Core.List.{List, [], _∷_}
+use mathlib.Core.List.{[], _∷_}
 use lib.ListN.{length}
 use Rattle.columns.specs.Columns.{accepts}
 use Rattle.rules.specs.Input.{Input, objectCount}
-use Rattle.rules.specs.Edges.{edgesOf, weakTargets, offset, graph}
-use Rattle.rules.specs.Questions.{Columns, columnsOf, labelOf, plainly, labelIn, fieldIn, referentIn}
+use Rattle.rules.specs.Edges.{edgesOf, offset, graph}
+use Rattle.rules.specs.Questions.{Columns, columnsOf, labelOf, plainly, labelIn}
 use Rattle.rules.proofs.Acceptance.{Passed}
 use Rattle.ask_span.specs.Reading.{spanOf}
 use Rattle.ask_span.specs.Graph.{spanIn}
 use Rattle.ask_label.specs.Labelled.{Labelled}
-use Rattle.ask_field.specs.Sought.{fieldFound, referentFound}
 use Rattle.ask_span.proofs.Built.{strong, span-built}
 use Rattle.ask_label.proofs.Labels.{toward-labelled}
 use Rattle.ask_label.proofs.Built.{label-built}
-use Rattle.ask_field.proofs.Built.{field-built, referent-built}
 use Rattle.ask_short.specs.Lean.{labelFound}
-use Rattle.ask_short.proofs.Whole.{shortly, leanly, span-whole, label-whole, field-whole, referent-whole}
+use Rattle.ask_short.proofs.Whole.{shortly, leanly, span-whole, label-whole}
 
 -- `labelFound` is one way to meet the contract of `label_of`.
 pub label-labelled : (c : Columns) (o t : ℕ) → Labelled o (spanIn c o) (labelFound c o t) (labelOf c o t)
@@ -38,9 +36,3 @@ module _ (x : Input) (h : Passed x) (o : ℕ) where
 
   pub label-lean : (t : ℕ) → accepts (labelFound (leanly (strong c)) o t) ≡ true → labelFound (leanly (strong c)) o t ≡ plainly n o (0 ∷ labelIn (edgesOf x o) t)
   label-lean t a = label-whole (strong c) o t a ∙ label-built x h o t (label-labelled (strong c) o t)
-
-  pub field-lean : (table : List ℕ) (l : ℕ) → accepts (fieldFound (leanly (strong c)) table o l) ≡ true → fieldFound (leanly (strong c)) table o l ≡ plainly n o (0 ∷ fieldIn (edgesOf x o) l)
-  field-lean table l a = field-whole (strong c) table o l a ∙ field-built x h o table l
-
-  pub referent-lean : (table : List ℕ) (l : ℕ) → accepts (referentFound (leanly c) table o l) ≡ true → referentFound (leanly c) table o l ≡ plainly n o (0 ∷ referentIn (edgesOf x o) (weakTargets x o) l)
-  referent-lean table l a = referent-whole c table o l a ∙ referent-built x h o table l

@@ -20,7 +20,7 @@ pub fn read_code(code: u16, next: u32, fields: &[u32]) -> EdgeLabel
 }
 
 // An edge's field label, or just `ARRAY_ELEMENT` for an element.
-pub(crate) fn coarse(codes: &[u16], edge: usize, fields: &[u32]) -> EdgeLabel
+pub fn coarse(codes: &[u16], edge: usize, fields: &[u32]) -> EdgeLabel
     requires { ⌜ edge < length (now codes) ⌝ }
     ensures { λ r. ⌜ readSays r ≡ coarseBack (plainOf (entry codes) (entry fields)) edge ⌝ }
 {

@@ -1,6 +1,6 @@
 // The questions by the short columns alone, without the long offsets and the escapes, which few objects need. Where the answer is no refusal it is the
 // whole question's; a refusal says only that the whole question is to be asked. So a host that asks here first lends few columns.
-pub mod field;
+// `ask_short_field` has the questions for a field.
 pub mod label;
 
 use rules::Span;

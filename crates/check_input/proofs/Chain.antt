@@ -22,7 +22,7 @@ use Rattle.check_input.specs.Flat.{faultsLate, faultsBefore}
 use Rattle.check_tables.specs.Reads.{sizeOnly}
 use Rattle.check_tables.specs.Reads.{Tables}
 use Rattle.check_tables.proofs.Even.{schema-dumped, schema-tables}
-use Rattle.check_input.proofs.Either.{first-is}
+use Rattle.check_whole.proofs.Either.{first-is}
 
 -- no refusal is an acceptance
 pub refused : {A : Type 0} (k : ℕ) (ps : List ℕ) → accepts (suc k ∷ ps) ≡ true → A

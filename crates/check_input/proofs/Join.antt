@@ -19,8 +19,9 @@ use Rattle.rules.specs.Verdict.{firstOf, at, once, badLengths, badLimit, badObj
 use Rattle.rules.specs.Needs.{Fits}
 use Rattle.rules.proofs.First.{first-append, first-once}
 use Rattle.check_tables.specs.Found.{findColumns, markTo, markAt, marks, marksIf}
-use Rattle.check_input.specs.Flat.{faultsLate, faultsBefore, limitSays, countedSays, PlacesCounted, allowed, marksLeft}
-use Rattle.check_input.proofs.Narrow.{same-dumped}
+use Rattle.check_input.specs.Flat.{faultsLate, faultsBefore, countedSays, PlacesCounted, marksLeft}
+use Rattle.check_whole.specs.Whole.{limitSays, allowed}
+use Rattle.check_whole.proofs.Narrow.{same-dumped}
 use Rattle.check_input.proofs.Sound.{before-refuse}
 
 -- The tests before PLACES do not read the policy.

@@ -1,5 +1,3 @@
-pub mod Either
-pub mod Narrow
 pub mod Chain
 pub mod Sound
 pub mod Join

@@ -8,43 +8,27 @@ use Rattle.columns.specs.Lists.{places}
 use Rattle.columns.specs.Columns.{zeros, accepts}
 use Rattle.rules.specs.declared.Checked.{Checked}
 use Rattle.rules.specs.Types.{checkedSays}
-use Rattle.rules.specs.Input.{Schema, Route, Route.raw, Input, objectCount, classCount}
-use Rattle.rules.specs.Tables.{objectTable, classTable, slotTable, staticTable, copiedRoute, rawRoute, schemaOf, inputOf}
+use Rattle.rules.specs.Input.{Schema, Input, objectCount, classCount}
+use Rattle.rules.specs.Tables.{objectTable, classTable, copiedRoute, rawRoute, schemaOf, inputOf}
 use Rattle.rules.specs.Places.{placeCount}
-use Rattle.rules.specs.Verdict.{firstOf, at, once, badLengths, badLimit, badObject, badDumped, badCopied, badSpan, badRoot, overPlaces, faults, checkSays}
+use Rattle.rules.specs.Verdict.{firstOf, at, once, badLengths, badLimit, badObject, badDumped, badCopied, badSpan, badRoot, faults, checkSays}
 use Rattle.rules.specs.Needs.{Fits}
 use Rattle.check_tables.specs.Found.{marksIf}
-use Rattle.check_tables.specs.Reads.{noSlots, noStatics, noPolicy, noRoute}
-
--- Lists are read as they are.
-abbrev own : List ℕ → List ℕ
-own l = l
-
--- the lengths that the raw route's columns have, without the bytes
-abbrev pub bodiesOnly : List ℕ → List ℕ → Route
-bodiesOnly starts bodies = raw (record { bytes = []; size = 0; starts = starts; lengths = bodies })
-
--- the columns of the class check with those about found objects
-abbrev pub dumpedColumns : List ℕ → List ℕ → List ℕ → List ℕ → List ℕ → List ℕ → List ℕ → List ℕ → List ℕ → List ℕ → List ℕ → List ℕ
-    → List ℕ → List ℕ → ℕ → Input
-dumpedColumns ids kinds classIds dumped classKinds slotStart slotEnd staticStart staticEnd offsets labels weak staticNames types names =
-    let schema =
-    schemaOf (classTable own classIds [] dumped classKinds slotStart slotEnd staticStart staticEnd) (slotTable own offsets labels weak)
-    (staticTable own staticNames types []) names in
-    inputOf (objectTable own ids kinds [] []) schema noRoute [] noPolicy
+use Rattle.check_tables.specs.Reads.{noSlots, noStatics, noPolicy}
+use Rattle.check_whole.specs.Whole.{asIs, limitSays}
 
 -- a schema of slot ranges alone, which is what the checks of copied ids, parts and roots read of it
 abbrev rangesOnly : List ℕ → List ℕ → Schema
-rangesOnly slotStart slotEnd = schemaOf (classTable own [] [] [] [] slotStart slotEnd [] []) noSlots noStatics 0
+rangesOnly slotStart slotEnd = schemaOf (classTable asIs [] [] [] [] slotStart slotEnd [] []) noSlots noStatics 0
 
 -- the columns of those checks, on either route
 abbrev pub lateColumns : List ℕ → List ℕ → List ℕ → List ℕ → List ℕ → List ℕ → List ℕ → List ℕ → List ℕ → ℕ → List ℕ → List ℕ → Input
 lateColumns ids kinds classes lengths slotStart slotEnd codes escapePlaces escapeIds base starts roots =
-    inputOf (objectTable own ids kinds classes lengths) (rangesOnly slotStart slotEnd) (copiedRoute own codes escapePlaces escapeIds base starts) roots noPolicy
+    inputOf (objectTable asIs ids kinds classes lengths) (rangesOnly slotStart slotEnd) (copiedRoute asIs codes escapePlaces escapeIds base starts) roots noPolicy
 
 abbrev pub lateRaw : List ℕ → List ℕ → List ℕ → List ℕ → List ℕ → List ℕ → List ℕ → ℕ → Input
 lateRaw ids kinds lengths starts bodies bytes roots size =
-    inputOf (objectTable own ids kinds [] lengths) (rangesOnly [] []) (rawRoute own bytes size starts bodies) roots noPolicy
+    inputOf (objectTable asIs ids kinds [] lengths) (rangesOnly [] []) (rawRoute asIs bytes size starts bodies) roots noPolicy
 
 -- The faults of copied ids, parts and roots; all faults in the order of refusal but PLACES, which is tested last, of an input that has none of these.
 unfoldable pub faultsLate : Input → List (List ℕ)
@@ -55,10 +39,7 @@ faultsBefore x =
     at 1 (once (badLengths x))
     ++ (at 2 (once (badLimit x)) ++ (at 3 (places (badObject x) (objectCount x)) ++ (at 4 (places (badDumped x) (classCount (x .schema))) ++ faultsLate x)))
 
--- 8 PLACES: "total places over the limit"; else the number that is told for them. It is tested where the tests before accept.
-unfoldable pub limitSays : ℕ → ℕ → List ℕ
-limitSays n told = cond (overPlaces n) (8 ∷ 0 ∷ []) (0 ∷ told ∷ [])
-
+-- PLACES is tested where the tests before accept.
 unfoldable pub countedSays : List ℕ → ℕ → ℕ → List ℕ
 countedSays tested n told = cond (accepts tested) (limitSays n told) tested
 
@@ -67,10 +48,6 @@ pub record PlacesCounted (tested : List ℕ) (room n : ℕ) (says : List ℕ) : 
   pub told : ℕ
   pub fits : Fits room n told
   pub answer : says ≡ countedSays tested n told
-
--- no more than the limit, so that what fits is not over it
-unfoldable pub allowed : ℕ → ℕ
-allowed room = cond (overPlaces room) 268435456 room
 
 -- What a check leaves in a working column of m numbers: the marks of the classes that are found, after a refusal zeros.
 unfoldable pub marksLeft : Input → ℕ → List ℕ

@@ -1,56 +1,15 @@
-// The last check, PLACES, and what a check leaves in the working column.
+// The last check, PLACES.
 ghost use mathlib.Core.Path.{_≡_};
-ghost use mathlib.Core.Bool.{true, cond};
-ghost use lib.ListN.{length};
+ghost use mathlib.Core.Bool.{true};
 ghost use Rattle.columns.specs.Lists.{_!_};
-ghost use Rattle.columns.specs.Columns.{zeros, accepts};
-ghost use Rattle.columns.specs.Loans.{entry, exit};
+ghost use Rattle.columns.specs.Columns.{accepts};
+ghost use Rattle.columns.specs.Loans.{entry};
 ghost use Rattle.rules.specs.Types.{checkedSays};
 ghost use Rattle.check_ids.specs.Copying.{heldCodes};
 ghost use Rattle.check_places.specs.Placing.{ClassTables, PartTables, CodeTables, rawPlaces, copiedPlaces};
-ghost use Rattle.check_input.specs.Flat.{limitSays, countedSays, PlacesCounted, allowed};
+ghost use Rattle.check_input.specs.Flat.{countedSays, PlacesCounted};
 use rules::Checked;
 use rules::ReferencePolicy;
-use rules::Refusal;
-
-// So many places, if they are not too many.
-fn limited(places: u64) -> Checked
-    ensures { λ r. ⌜ checkedSays r ≡ limitSays places places ⌝ }
-{
-    if 268435456 < places {
-        return Checked::Refused(Refusal::Places);
-    }
-    Checked::Accepted(places as usize)
-}
-
-// So much of a room that what fits in it is not too much.
-fn least_room(room: usize) -> usize
-    ensures { λ r. ⌜ r ≡ allowed room ⌝ }
-{
-    if 268435456 < room {
-        return 268435456;
-    }
-    room
-}
-
-pub(crate) fn accepted(c: Checked) -> bool
-    ensures { λ r. ⌜ r ≡ accepts (checkedSays c) ⌝ }
-{
-    match c {
-        Checked::Accepted(_) => true,
-        Checked::Refused(_) => false,
-    }
-}
-
-// Marks are kept or cleared.
-pub(crate) fn settle(keep: bool, working: &mut [u64])
-    ensures { λ _. ⌜ exit working ≡ cond keep (entry working) (zeros (length (entry working))) ⌝ }
-{
-    if keep {
-        return;
-    }
-    columns::zero_u64(working, 0);
-}
 
 // The answer of the tests before, or where they accept, that of the places, of which no more matters than whether they fit the room. The tests before
 // tell how many codes are not 0.
@@ -89,9 +48,9 @@ pub(crate) fn count_copied(
 {
     match tested {
         Checked::Refused(why) => Checked::Refused(why),
-        Checked::Accepted(held) => limited(check_places::fit_places(
+        Checked::Accepted(held) => check_whole::limited(check_places::fit_places(
             held,
-            least_room(room),
+            check_whole::least_room(room),
             ids,
             kinds,
             classes,
@@ -142,7 +101,7 @@ pub(crate) fn count_raw(
 {
     match tested {
         Checked::Refused(why) => Checked::Refused(why),
-        Checked::Accepted(_) => limited(check_places::raw_places(
+        Checked::Accepted(_) => check_whole::limited(check_places::raw_places(
             ids,
             kinds,
             classes,

@@ -13,9 +13,9 @@ ghost use Rattle.check_ids.specs.Copying.{heldCodes};
 ghost use Rattle.check_tables.specs.Found.{marksIf, findColumns};
 ghost use Rattle.check_input.specs.Flat.{faultsBefore};
 use crate::late;
-use crate::tables;
 use check_tables::lengths;
 use check_tables::objects;
+use check_whole::tables;
 use rules::Checked;
 use rules::Refusal;
 

@@ -9,7 +9,6 @@ use rules::ReferencePolicy;
 pub mod count;
 pub mod judge;
 pub mod late;
-pub mod tables;
 
 // Whether an input of the copied route may be built, and how many places it has, or a number within the room where they fit in it. The working column,
 // whatever it held, is left with the marks of the classes that are found, which a build goes on with; after a refusal with zeros.
@@ -100,7 +99,7 @@ pub fn fit_copied(
         starts,
         policy,
     );
-    count::settle(count::accepted(answer), working);
+    check_whole::settle(check_whole::accepted(answer), working);
     answer
 }
 
@@ -251,6 +250,6 @@ pub fn check_raw(
         static_types,
         static_values,
     );
-    count::settle(count::accepted(answer), working);
+    check_whole::settle(check_whole::accepted(answer), working);
     answer
 }

@@ -50,7 +50,7 @@ pub fn codes_stage(
     };
     let edges = labels.len();
     if edge_codes.len() < edges {
-        let rows = labels::code::count_escapes(offsets, labels, names, table);
+        let rows = label_codes::count_escapes(offsets, labels, names, table);
         return answers::first_short(
             rows,
             edges,
@@ -60,11 +60,11 @@ pub fn codes_stage(
             8,
         );
     }
-    labels::code::code_objects(offsets, labels, names, table, edge_codes);
+    label_codes::code_objects(offsets, labels, names, table, edge_codes);
     let rows = count_escaped(edge_codes, edges);
     if answers::is_short(rows, escape_at.len(), escape_label.len()) {
         return answers::room(7);
     }
-    labels::code::write_escapes(edge_codes, labels, escape_at, escape_label);
+    label_codes::write_escapes(edge_codes, labels, escape_at, escape_label);
     answers::with_escapes(c, rows)
 }

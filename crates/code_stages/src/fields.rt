@@ -41,7 +41,7 @@ pub fn fields_room(
     if table.len() < names + 2 {
         return answers::room(6);
     }
-    let n = labels::count_fields(
+    let n = label_fields::count_fields(
         classes,
         slot_starts,
         slot_ends,
@@ -66,7 +66,7 @@ pub(crate) fn write_table(fields: &[u32], n: usize, names: usize, table: &mut [u
     requires { ⌜ Named names (take n (now fields)) ⌝ }
     ensures { λ _. ⌜ exit table ≡ over (codeTable names (take n (entry fields))) (entry table) ⌝ }
 {
-    labels::fields::write_table(&fields[0..n], names, table);
+    label_fields::fields::write_table(&fields[0..n], names, table);
 }
 
 // The fields that have codes and the code table, over the fronts of their columns.
@@ -96,7 +96,7 @@ pub fn write_fields(
         Where (builtSays v) (FieldsWritten names (fieldsBy named classes names (entry labels)) (exit fields) (exit table))) ⌝ }
 {
     if rules::accepted(v) {
-        let n = labels::write_fields(
+        let n = label_fields::write_fields(
             classes,
             slot_starts,
             slot_ends,

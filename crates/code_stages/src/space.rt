@@ -33,7 +33,7 @@ fn escapes_without(
         r ≡ escapesOf (fieldsBy named classes names (entry labels)) (entry offsets) (entry labels)) ⌝ }
 {
     columns::zero_u16(table, 0);
-    labels::fields::mark_named(
+    label_fields::fields::mark_named(
         classes,
         slot_starts,
         slot_ends,
@@ -45,13 +45,13 @@ fn escapes_without(
         names,
         table,
     );
-    let listed = labels::fields::count_marked(table, names);
+    let listed = label_fields::fields::count_marked(table, names);
     if 32767 < listed {
         return need_escapes::slow_escapes(offsets, labels, names, table);
     }
-    labels::fields::write_marked(table, names, fields);
+    label_fields::fields::write_marked(table, names, fields);
     fields::write_table(fields, listed, names, table);
-    labels::code::count_escapes(offsets, labels, names, table)
+    label_codes::count_escapes(offsets, labels, names, table)
 }
 
 // An acceptance is handed on where buffer 9 has room.

@@ -1,12 +1,8 @@
 pub mod Table
 pub mod Escapes
 pub mod Codes
-pub mod Marks
-pub mod Tabling
 pub mod Walk
 pub mod Back
-pub mod Uses
-pub mod Ranking
-pub mod Ranks
+pub mod Occurring
 pub mod Listed
 pub mod Theorems

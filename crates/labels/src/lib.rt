@@ -1,117 +1,16 @@
-// Edge labels in two bytes each: which fields have codes, the code table, the codes with their escapes, and reading (`Labels` and `EdgeLabels`).
+// Edge labels in two bytes each: what fields, codes and escapes are, and reading a label back (`Labels` and `EdgeLabels`). `label_fields` chooses the fields,
+// `label_codes` writes the codes.
 pub mod code;
-pub mod fields;
-pub mod rank;
 pub mod read;
 
 ghost use mathlib.Core.Path.{_≡_};
 ghost use Prim.Native.Nat.{_+_, _≤_};
-ghost use lib.ListN.{length};
-ghost use Rattle.columns.specs.Loans.{entry, exit};
 ghost use Rattle.rules.specs.Types.{LOADER};
-ghost use Rattle.rules.specs.Labels.{fieldsOf};
-ghost use Rattle.labels.specs.Coding.{Room};
-ghost use Rattle.labels.specs.Fields.{nameColumns, namedBy, Ranges, Chosen};
 
 // What reading one label back answers.
 pub enum EdgeLabel {
     Is(u32),
     Bad,
-}
-
-// The need of buffer 6: how many fields have codes. The code table serves as marks.
-pub fn count_fields(
-    classes: usize,
-    slot_starts: &[u32],
-    slot_ends: &[u32],
-    static_starts: &[u32],
-    static_ends: &[u32],
-    slot_labels: &[u32],
-    static_names: &[u32],
-    static_types: &[u8],
-    labels: &[u32],
-    names: usize,
-    table: &mut [u16],
-) -> usize
-    requires { ⌜ Room names (now table) × Ranges (nameColumns now «slot_starts» «slot_ends» «static_starts» «static_ends» «slot_labels» «static_names» «static_types») classes ⌝ }
-    ensures { λ r. ⌜ (
-        let columns = nameColumns entry «slot_starts» «slot_ends» «static_starts» «static_ends» «slot_labels» «static_names» «static_types» in
-        r ≡ length (fieldsOf names (namedBy columns classes) (entry labels))) ⌝ }
-{
-    columns::zero_u16(table, 0);
-    fields::mark_named(
-        classes,
-        slot_starts,
-        slot_ends,
-        static_starts,
-        static_ends,
-        slot_labels,
-        static_names,
-        static_types,
-        names,
-        table,
-    );
-    let listed = fields::count_marked(table, names);
-    if listed <= 32767 {
-        return listed;
-    }
-    columns::zero_u16(table, 0);
-    fields::mark_slots(labels, 0, labels.len(), names, table);
-    rank::coded_of(fields::count_marked(table, names))
-}
-
-// The fields that have codes, from the front of their column; the answer is how many they are. A field's code is its place.
-pub fn write_fields(
-    classes: usize,
-    slot_starts: &[u32],
-    slot_ends: &[u32],
-    static_starts: &[u32],
-    static_ends: &[u32],
-    slot_labels: &[u32],
-    static_names: &[u32],
-    static_types: &[u8],
-    labels: &[u32],
-    names: usize,
-    table: &mut [u16],
-    counts: &mut [u64],
-    keys: &mut [u64],
-    fields: &mut [u32],
-) -> usize
-    requires { ⌜ Room names (now table) × Room names (now counts) × Room names (now keys) × (length (now labels) ≤ 4294967295) ⌝ }
-    requires { ⌜ Ranges (nameColumns now «slot_starts» «slot_ends» «static_starts» «static_ends» «slot_labels» «static_names» «static_types») classes ⌝ }
-    requires { ⌜ (
-        let columns = nameColumns now «slot_starts» «slot_ends» «static_starts» «static_ends» «slot_labels» «static_names» «static_types» in
-        length (fieldsOf names (namedBy columns classes) (now labels)) ≤ length (now fields)) ⌝ }
-    ensures { λ r. ⌜ (
-        let columns = nameColumns entry «slot_starts» «slot_ends» «static_starts» «static_ends» «slot_labels» «static_names» «static_types» in
-        Chosen (fieldsOf names (namedBy columns classes) (entry labels)) (entry fields) r (exit fields)) ⌝ }
-{
-    columns::zero_u16(table, 0);
-    fields::mark_named(
-        classes,
-        slot_starts,
-        slot_ends,
-        static_starts,
-        static_ends,
-        slot_labels,
-        static_names,
-        static_types,
-        names,
-        table,
-    );
-    let listed = fields::count_marked(table, names);
-    if listed <= 32767 {
-        fields::write_marked(table, names, fields);
-        return listed;
-    }
-    rank::rank_fields(labels, names, counts, keys, fields)
-}
-
-// The need of buffer 8: one code for each label.
-pub fn count_codes(labels: &[u32]) -> usize
-    ensures { λ r. ⌜ r ≡ length (entry labels) ⌝ }
-{
-    labels.len()
 }
 
 // The need of the code table, and of each column of buffer 9: a place for each name, for the loader, and for any other label.

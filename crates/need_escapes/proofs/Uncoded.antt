@@ -28,7 +28,7 @@ use Rattle.labels.specs.Fields.{tableLabel, firstRanked}
 use Rattle.labels.proofs.Table.{label-places}
 use Rattle.labels.proofs.Escapes.{escapes-places, escapes-append, escapes-few}
 use Rattle.labels.proofs.Codes.{laid-within, all-length}
-use Rattle.labels.proofs.Ranking.{tab-take}
+use Rattle.labels.proofs.Occurring.{tab-take}
 use Rattle.need_escapes.specs.Uncoded.{Labelled, capped, isMore, usedMore, layers}
 use Rattle.need_escapes.proofs.Layers.{moreThan, falling, sum-behind, sort-falls, few-more, count-swap}
 use Rattle.need_escapes.proofs.Capped.{capped-count, capped-length}

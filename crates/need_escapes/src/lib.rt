@@ -83,7 +83,7 @@ pub fn slow_escapes(offsets: &[u64], labels: &[u32], names: usize, table: &mut [
     ensures { λ r. ⌜ Escaped (coded (first names (entry labels)) (entry offsets) (entry labels) (length (entry offsets) - 1)) (entry table) r (exit table) ⌝ }
 {
     columns::zero_u16(table, 0);
-    let elements = labels::code::count_escapes(offsets, labels, names, table);
+    let elements = label_codes::count_escapes(offsets, labels, names, table);
     count_capped(labels, names, table);
     let fields = count_uncoded(table, names);
     columns::zero_u16(table, 0);

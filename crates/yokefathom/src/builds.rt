@@ -115,7 +115,7 @@ pub extern "C" fn yokefathom_build_copied(
         counting,
         ranking,
     );
-    let says = answer_numbers::built(built);
+    let says = answer_builds::built(built);
     *answer = says;
 }
 
@@ -227,6 +227,6 @@ pub extern "C" fn yokefathom_build_raw(
         counting,
         ranking,
     );
-    let says = answer_numbers::built(built);
+    let says = answer_builds::built(built);
     *answer = says;
 }

@@ -86,6 +86,6 @@ pub extern "C" fn yokefathom_from_parts(
         counting,
         ranking,
     );
-    let says = answer_numbers::built(built);
+    let says = answer_builds::built(built);
     *answer = says;
 }

@@ -12,7 +12,8 @@ ghost use Rattle.ask_label.specs.Labelled.{edgeAsked, coarseAt, Labelled};
 ghost use Rattle.ask_field.specs.Sought.{fieldFound, referentFound};
 ghost use Rattle.ask_short.specs.Lean.{shortOf, leanColumns, leanEdges, plainBack, labelFound};
 ghost use Rattle.ask_edges.specs.Read.{edgeNext};
-ghost use Rattle.answer_numbers.specs.Told.{told, spanNumber, replyOf, labelNext};
+ghost use Rattle.answer_numbers.specs.Told.{told};
+ghost use Rattle.answer_replies.specs.Reply.{spanNumber, replyOf, labelNext};
 ghost use Rattle.yokefathom.specs.Calls.{heard};
 
 // Where the edges of an object sit in the target column.
@@ -307,7 +308,7 @@ pub extern "C" fn yokefathom_lean_span(
     ensures { λ r. ⌜ r ≡ spanNumber (spanOf (shortOf (entry bases) (entry short)) codes targets object) ⌝ }
 {
     let found = ask_short::span(bases, short, codes, targets, object);
-    answer_numbers::span_number(found)
+    answer_replies::span_number(found)
 }
 
 #[no_mangle]
@@ -323,7 +324,7 @@ pub extern "C" fn yokefathom_lean_label_of(
     ensures { λ r. ⌜ r ≡ replyOf (labelFound (leanEdges entry bases short codes targets fields) object target) ⌝ }
 {
     let found = ask_short::label::label_of(bases, short, codes, targets, fields, object, target);
-    answer_numbers::label_reply(found)
+    answer_replies::label_reply(found)
 }
 
 #[no_mangle]
@@ -339,8 +340,8 @@ pub extern "C" fn yokefathom_lean_field(
 ) -> u64
     ensures { λ r. ⌜ r ≡ replyOf (fieldFound (leanEdges entry bases short codes targets fields) (entry table) object label) ⌝ }
 {
-    let found = ask_short::field::field(bases, short, codes, targets, fields, table, object, label);
-    answer_numbers::field_reply(found)
+    let found = ask_short_field::field(bases, short, codes, targets, fields, table, object, label);
+    answer_replies::field_reply(found)
 }
 
 #[no_mangle]
@@ -358,7 +359,7 @@ pub extern "C" fn yokefathom_lean_referent(
 ) -> u64
     ensures { λ r. ⌜ r ≡ replyOf (referentFound (leanColumns entry bases short codes targets fields «weak_from» «weak_to») (entry table) object label) ⌝ }
 {
-    let found = ask_short::field::referent(
+    let found = ask_short_field::referent(
         bases,
         short,
         codes,
@@ -370,7 +371,7 @@ pub extern "C" fn yokefathom_lean_referent(
         object,
         label,
     );
-    answer_numbers::referent_reply(found)
+    answer_replies::referent_reply(found)
 }
 
 // The label that a code says by itself, where `expected` is what the edge before left behind, and what is expected behind this one.
@@ -379,5 +380,5 @@ pub extern "C" fn yokefathom_lean_label(code: u16, expected: u32, fields: &[u32]
     ensures { λ r. ⌜ r ≡ labelNext expected (plainBack (entry fields) expected code) ⌝ }
 {
     let found = ask_short::label::read_code(code, expected, fields);
-    answer_numbers::code_reply(found, expected)
+    answer_replies::code_reply(found, expected)
 }

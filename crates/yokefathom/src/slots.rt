@@ -28,5 +28,5 @@ pub extern "C" fn yokefathom_fill_columns(
         labels,
         weak,
     );
-    *answer = answer_numbers::filled(filled);
+    *answer = answer_builds::filled(filled);
 }

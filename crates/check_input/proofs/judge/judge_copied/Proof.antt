@@ -19,7 +19,7 @@ use Rattle.check_input.proofs.Chain.{before-lengths, before-limit, befo
 use Rattle.rules.specs.Verdict.{limits}
 use Rattle.rules.proofs.Even.{objects-even, copied-even}
 use Rattle.check_tables.proofs.Even.{with-none}
-use Rattle.check_input.proofs.Narrow.{same-dumped, same-find}
+use Rattle.check_whole.proofs.Narrow.{same-dumped, same-find}
 use Rattle.check_tables.proofs.Marks.{marksIf-same}
 use borrow.Author.Needs.{needs}
 use Rattle.check_input.proofs.judge.judge_copied.Statement.{statement}

@@ -17,7 +17,7 @@ use Rattle.check_tables.specs.Found.{marksIf, findColumns}
 use Rattle.check_input.specs.Flat.{faultsLate}
 use Rattle.check_input.proofs.Chain.{before-lengths, before-limit, before-object, before-class, before-late, refused, dumped-even, tables-even, size-small, ids-rise, finds-none}
 use Rattle.check_tables.proofs.Even.{two-first, two-second, two-none}
-use Rattle.check_input.proofs.Narrow.{same-dumped, same-find}
+use Rattle.check_whole.proofs.Narrow.{same-dumped, same-find}
 use Rattle.check_tables.proofs.Marks.{marksIf-same}
 use borrow.Author.Needs.{needs}
 use Rattle.check_input.proofs.judge.judge_raw.Statement.{statement}

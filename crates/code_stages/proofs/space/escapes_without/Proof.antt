@@ -9,8 +9,9 @@ use Rattle.rules.specs.Types.{LOADER}
 use Rattle.rules.specs.Labels.{fieldsOf, codeTable}
 use denote.Ref.{now}
 use Rattle.labels.specs.Fields.{Naming, nameColumns, namedBy, Named, Chosen}
-use Rattle.labels.proofs.Listed.{chosen-listed, chosen-ranked, fields-named}
-use Rattle.labels.proofs.Tabling.{table-written}
+use Rattle.label_fields.proofs.Choice.{chosen-listed, chosen-ranked}
+use Rattle.labels.proofs.Listed.{fields-named}
+use Rattle.label_fields.proofs.Tabling.{table-written}
 use Rattle.code_stages.proofs.Laws.{chosen-front, escapes-same}
 use borrow.Author.Needs.{needs}
 use Rattle.code_stages.proofs.space.escapes_without.Statement.{statement}

@@ -1,6 +1,6 @@
 -- `yokefathom::questions::yokefathom_lean_label` meets its contract. Assumes nothing.
 use mathlib.Core.Path.{ap, _∙_}
-use Rattle.answer_numbers.specs.Told.{labelNext}
+use Rattle.answer_replies.specs.Reply.{labelNext}
 use borrow.Author.Needs.{needs}
 use Rattle.yokefathom.proofs.questions.yokefathom_lean_label.Statement.{statement}
 use Rattle.yokefathom.proofs.questions.yokefathom_lean_label.Tie as tie

@@ -1,6 +1,6 @@
 -- `yokefathom::questions::yokefathom_lean_span` meets its contract. Assumes nothing.
 use mathlib.Core.Path.{ap, _∙_}
-use Rattle.answer_numbers.specs.Told.{spanNumber}
+use Rattle.answer_replies.specs.Reply.{spanNumber}
 use borrow.Author.Needs.{needs}
 use Rattle.yokefathom.proofs.questions.yokefathom_lean_span.Statement.{statement}
 use Rattle.yokefathom.proofs.questions.yokefathom_lean_span.Tie as tie

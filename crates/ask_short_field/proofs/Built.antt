@@ -1,0 +1,28 @@
+-- On the columns of an accepted build: an answer for a field by the short columns that is no refusal is the same question on the object's edges. Assumes nothing.
+use Prim.Native.Nat.{ℕ}
+use mathlib.Core.Path.{_≡_, _∙_}
+use mathlib.Core.Bool.{true}
+use mathlib.Core.List.{List, _∷_}
+use Rattle.columns.specs.Columns.{accepts}
+use Rattle.rules.specs.Input.{Input, objectCount}
+use Rattle.rules.specs.Edges.{edgesOf, weakTargets, graph}
+use Rattle.rules.specs.Questions.{Columns, columnsOf, plainly, fieldIn, referentIn}
+use Rattle.rules.proofs.Acceptance.{Passed}
+use Rattle.ask_field.specs.Sought.{fieldFound, referentFound}
+use Rattle.ask_span.proofs.Built.{strong}
+use Rattle.ask_field.proofs.Built.{field-built, referent-built}
+use Rattle.ask_short.proofs.Whole.{leanly}
+use Rattle.ask_short_field.proofs.Whole.{field-whole, referent-whole}
+
+module _ (x : Input) (h : Passed x) (o : ℕ) where
+  abbrev c : Columns
+  c = columnsOf (x .schema) (graph x)
+
+  abbrev n : ℕ
+  n = objectCount x
+
+  pub field-lean : (table : List ℕ) (l : ℕ) → accepts (fieldFound (leanly (strong c)) table o l) ≡ true → fieldFound (leanly (strong c)) table o l ≡ plainly n o (0 ∷ fieldIn (edgesOf x o) l)
+  field-lean table l a = field-whole (strong c) table o l a ∙ field-built x h o table l
+
+  pub referent-lean : (table : List ℕ) (l : ℕ) → accepts (referentFound (leanly c) table o l) ≡ true → referentFound (leanly c) table o l ≡ plainly n o (0 ∷ referentIn (edgesOf x o) (weakTargets x o) l)
+  referent-lean table l a = referent-whole c table o l a ∙ referent-built x h o table l

@@ -1,0 +1,3 @@
+pub mod Weak
+pub mod Whole
+pub mod Built

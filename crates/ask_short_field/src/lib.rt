@@ -1,0 +1,167 @@
+// The target of an object's field, and of its weak reference, by the short columns alone, as `ask_short` answers the other questions.
+use ask_field::Sought;
+use labels::EdgeLabel;
+use labels::code::ESCAPED;
+use rules::Field;
+use rules::Label;
+use rules::Referent;
+use rules::Span;
+ghost use mathlib.Core.Path.{_≡_};
+ghost use mathlib.Core.List.{[], _∷_};
+ghost use Prim.Native.Nat.{_+_, _≤_};
+ghost use lib.ListN.{length};
+ghost use mathlib.Core.Bool.{true};
+ghost use Rattle.columns.specs.Loans.{entry};
+ghost use Rattle.columns.specs.Ranks.{bisect};
+ghost use Rattle.rules.specs.Types.{fieldSays, referentSays};
+ghost use Rattle.ask_span.specs.Reading.{weakRowsOf};
+ghost use Rattle.ask_field.specs.Sought.{decoded, soughtIn, fieldFound, firstWeak, referentFound};
+ghost use Rattle.ask_short.specs.Lean.{plainOf, leanColumns, leanEdges};
+
+// The first edge with a label that has no code: each edge's label is read.
+fn first_label(codes: &[u16], start: usize, count: usize, fields: &[u32], label: u32) -> Sought
+    requires { ⌜ start + count ≤ length (now codes) ⌝ }
+    ensures { λ r. ⌜ r ≡ decoded (plainOf (entry codes) (entry fields)) start count label ⌝ }
+{
+    let mut k = 0;
+    while k < count {
+        let read = ask_short::label::coarse(codes, start + k, fields);
+        match read {
+            EdgeLabel::Is(l) => {
+                if l == label {
+                    return Sought::At(k);
+                }
+                k += 1;
+            }
+            EdgeLabel::Bad => {
+                return Sought::Bad;
+            }
+        }
+    }
+    Sought::Nothing
+}
+
+// The first edge whose coarse label matches. A field with a code is found by comparing codes.
+fn seek(
+    codes: &[u16],
+    start: usize,
+    count: usize,
+    fields: &[u32],
+    table: &[u16],
+    label: u32,
+) -> Sought
+    requires { ⌜ start + count ≤ length (now codes) ⌝ }
+    ensures { λ r. ⌜ r ≡ soughtIn (plainOf (entry codes) (entry fields)) (entry table) start count label ⌝ }
+{
+    if label == Label::ARRAY_ELEMENT {
+        return ask_field::first_element(codes, start, count);
+    }
+    if Label::ARRAY_ELEMENT <= label {
+        return Sought::Nothing;
+    }
+    let code = ask_field::code_of(fields, table, label);
+    if code == ESCAPED {
+        return first_label(codes, start, count, fields, label);
+    }
+    ask_field::first_code(codes, start, count, code)
+}
+
+// The target of a field of an object: of its first edge whose coarse label matches.
+pub fn field(
+    bases: &[u64],
+    short: &[u16],
+    codes: &[u16],
+    targets: &[u32],
+    fields: &[u32],
+    table: &[u16],
+    object: usize,
+    label: u32,
+) -> Field
+    ensures { λ r. ⌜ fieldSays r ≡ fieldFound (leanEdges entry bases short codes targets fields) (entry table) object label ⌝ }
+{
+    let at = ask_short::span(bases, short, codes.len(), targets.len(), object);
+    match at {
+        Span::Edges { start, end } => {
+            let sought = seek(codes, start, end - start, fields, table, label);
+            match sought {
+                Sought::At(k) => Field::Target(ask_field::target_at(targets, start + k)),
+                Sought::Nothing => Field::Nothing,
+                Sought::Bad => Field::Columns(object),
+            }
+        }
+        Span::Index(i) => Field::Index(i),
+        Span::Columns(o) => Field::Columns(o),
+    }
+}
+
+// Whether bisection meets no number that is x: then it ends for x and for the next number at one place.
+fn absent(xs: &[u32], x: u64) -> bool
+    ensures { λ r. ⌜ (r ≡ true → bisect (entry xs) x ≡ bisect (entry xs) (x + 1)) ⌝ }
+{
+    let mut lo = 0;
+    let mut hi = xs.len();
+    while lo < hi {
+        let mid = lo + (hi - lo) / 2;
+        let v = columns::wide(xs[mid]);
+        if v == x {
+            return false;
+        }
+        if v < x {
+            lo = mid + 1;
+        } else {
+            hi = mid;
+        }
+    }
+    true
+}
+
+// Whether an object is seen to have no weak pair by one bisection.
+fn no_weak(short: &[u16], weak_from: &[u32], weak_to: &[u32], object: usize) -> bool
+    ensures { λ r. ⌜ (r ≡ true → firstWeak (weakRowsOf (length (entry short)) (entry «weak_from») (entry «weak_to») object) (entry «weak_to») ≡ 0 ∷ []) ⌝ }
+{
+    if short.len() <= object {
+        return false;
+    }
+    if short.len() - object < 2 {
+        return false;
+    }
+    if weak_to.len() < weak_from.len() {
+        return false;
+    }
+    absent(weak_from, object as u64)
+}
+
+// The first of an object's weak targets. Few objects have one, so that is looked at first.
+fn first_weak(short: &[u16], weak_from: &[u32], weak_to: &[u32], object: usize) -> Referent
+    ensures { λ r. ⌜ referentSays r ≡ firstWeak (weakRowsOf (length (entry short)) (entry «weak_from») (entry «weak_to») object) (entry «weak_to») ⌝ }
+{
+    let none = no_weak(short, weak_from, weak_to, object);
+    if none {
+        return Referent::Nothing;
+    }
+    ask_field::first_weak(short, weak_from, weak_to, object)
+}
+
+// The target of a field of an object, or where it has none its smallest weak target.
+pub fn referent(
+    bases: &[u64],
+    short: &[u16],
+    codes: &[u16],
+    targets: &[u32],
+    fields: &[u32],
+    table: &[u16],
+    weak_from: &[u32],
+    weak_to: &[u32],
+    object: usize,
+    label: u32,
+) -> Referent
+    ensures { λ r. ⌜ referentSays r ≡ referentFound (leanColumns entry bases short codes targets fields «weak_from» «weak_to») (entry table) object label ⌝ }
+{
+    let held = field(bases, short, codes, targets, fields, table, object, label);
+    match held {
+        Field::Target(t) => Referent::Target(t),
+        Field::Nothing => first_weak(short, weak_from, weak_to, object),
+        Field::Index(i) => Referent::Index(i),
+        Field::Columns(o) => Referent::Columns(o),
+    }
+}

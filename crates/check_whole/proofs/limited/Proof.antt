@@ -1,0 +1,21 @@
+-- `check_whole::limited` meets its contract: by the limit. Assumes nothing.
+use borrow.Author.Tests.{lt-ltb, le-ltb}
+use Rattle.check_whole.specs.Whole.{limitSays}
+use borrow.Author.Needs.{needs}
+use Rattle.check_whole.proofs.limited.Statement.{statement}
+use Rattle.check_whole.proofs.limited.Tie as tie
+
+returns : tie.Need-returns
+unfolding limitSays
+returns c = simp (lt-ltb _ _ (c .if1 .taken))
+
+returns-2 : tie.Need-returns-2
+unfolding limitSays
+returns-2 c = simp (le-ltb _ _ (c .if1 .left))
+
+pub limited-spec : {M : Type 1} → statement M
+limited-spec =
+    tie.close
+    (tie.spec
+    returns
+    returns-2)
