@@ -23,6 +23,8 @@ PARTS.insert(PARTS.index("weak_to") + 1, "roots")
 ASK = """
 bases short long_at long_value edge_codes targets fields escape_at escape_label table weak_from weak_to
 """.split()
+# A reader holds target and code parts (document 01).
+READER = "targets codes fields escape_at escape_label".split()
 # What leaf calls name for themselves: any numbers, values to be coded, a part of a column, rows, the answer.
 OWN = """
 s d xs values marks from to rows from_offsets from_labels from_weak weak answer
@@ -31,8 +33,10 @@ s d xs values marks from to rows from_offsets from_labels from_weak weak answer
 PROGRAMS = {"print", "case_text", "replay", "show_cases", "show_worked"}
 
 
-def order_of(path):
+def order_of(path, name):
     crate = path.parts[1]
+    if crate == "ask_edges" or name == "yokefathom_edge":
+        return READER
     if crate.startswith("ask_") or path.name in ("questions.rt", "read.rt"):
         return ASK
     return PARTS if "parts" in crate or path.name == "parts.rt" else BUILD
@@ -40,8 +44,8 @@ def order_of(path):
 
 def faults(path):
     text = re.sub(r"//.*", "", path.read_text())
-    order = order_of(path)
     for name, words in re.findall(r"\bfn (\w+)(?:<[^>]*>)?\(([^)]*)\)", text):
+        order = order_of(path, name)
         slices = [word.strip() for word in words.split(",") if "&" in word and "[" in word]
         for lent in (False, True):
             names = [s.split(":")[0] for s in slices if ("&mut" in s) == lent]

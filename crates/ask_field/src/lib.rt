@@ -60,14 +60,14 @@ pub fn code_of(fields: &[u32], table: &[u16], label: u32) -> u16
     code
 }
 
-pub fn first_element(codes: &[u16], start: usize, count: usize) -> Sought
-    requires { ⌜ start + count ≤ length (now codes) ⌝ }
-    ensures { λ r. ⌜ r ≡ firstSought (elementAt (codedOf (entry codes) [] [] []) start) count ⌝ }
+pub fn first_element(edge_codes: &[u16], start: usize, count: usize) -> Sought
+    requires { ⌜ start + count ≤ length (now «edge_codes») ⌝ }
+    ensures { λ r. ⌜ r ≡ firstSought (elementAt (codedOf (entry «edge_codes») [] [] []) start) count ⌝ }
 {
     let mut k = 0;
     while k < count {
         let edge = start + k;
-        if ELEMENT <= codes[edge] {
+        if ELEMENT <= edge_codes[edge] {
             return Sought::At(k);
         }
         k += 1;
@@ -75,14 +75,14 @@ pub fn first_element(codes: &[u16], start: usize, count: usize) -> Sought
     Sought::Nothing
 }
 
-pub fn first_code(codes: &[u16], start: usize, count: usize, code: u16) -> Sought
-    requires { ⌜ start + count ≤ length (now codes) ⌝ }
-    ensures { λ r. ⌜ r ≡ firstSought (hasCode (codedOf (entry codes) [] [] []) start code) count ⌝ }
+pub fn first_code(edge_codes: &[u16], start: usize, count: usize, code: u16) -> Sought
+    requires { ⌜ start + count ≤ length (now «edge_codes») ⌝ }
+    ensures { λ r. ⌜ r ≡ firstSought (hasCode (codedOf (entry «edge_codes») [] [] []) start code) count ⌝ }
 {
     let mut k = 0;
     while k < count {
         let edge = start + k;
-        if codes[edge] == code {
+        if edge_codes[edge] == code {
             return Sought::At(k);
         }
         k += 1;
@@ -92,7 +92,7 @@ pub fn first_code(codes: &[u16], start: usize, count: usize, code: u16) -> Sough
 
 // The first edge with a label that has no code: each edge's label is read.
 fn first_label(
-    codes: &[u16],
+    edge_codes: &[u16],
     start: usize,
     count: usize,
     fields: &[u32],
@@ -100,12 +100,12 @@ fn first_label(
     escape_label: &[u32],
     label: u32,
 ) -> Sought
-    requires { ⌜ start + count ≤ length (now codes) ⌝ }
-    ensures { λ r. ⌜ r ≡ decoded (codedOf (entry codes) (entry fields) (entry «escape_at») (entry «escape_label»)) start count label ⌝ }
+    requires { ⌜ start + count ≤ length (now «edge_codes») ⌝ }
+    ensures { λ r. ⌜ r ≡ decoded (codedOf (entry «edge_codes») (entry fields) (entry «escape_at») (entry «escape_label»)) start count label ⌝ }
 {
     let mut k = 0;
     while k < count {
-        let read = labels::read::coarse(codes, start + k, fields, escape_at, escape_label);
+        let read = labels::read::coarse(edge_codes, start + k, fields, escape_at, escape_label);
         match read {
             EdgeLabel::Is(l) => {
                 if l == label {
@@ -123,7 +123,7 @@ fn first_label(
 
 // The first edge whose coarse label matches. A field with a code is found by comparing codes.
 fn seek(
-    codes: &[u16],
+    edge_codes: &[u16],
     start: usize,
     count: usize,
     fields: &[u32],
@@ -132,20 +132,28 @@ fn seek(
     table: &[u16],
     label: u32,
 ) -> Sought
-    requires { ⌜ start + count ≤ length (now codes) ⌝ }
-    ensures { λ r. ⌜ r ≡ soughtIn (codedOf (entry codes) (entry fields) (entry «escape_at») (entry «escape_label»)) (entry table) start count label ⌝ }
+    requires { ⌜ start + count ≤ length (now «edge_codes») ⌝ }
+    ensures { λ r. ⌜ r ≡ soughtIn (codedOf (entry «edge_codes») (entry fields) (entry «escape_at») (entry «escape_label»)) (entry table) start count label ⌝ }
 {
     if label == Label::ARRAY_ELEMENT {
-        return first_element(codes, start, count);
+        return first_element(edge_codes, start, count);
     }
     if Label::ARRAY_ELEMENT <= label {
         return Sought::Nothing;
     }
     let code = code_of(fields, table, label);
     if code == ESCAPED {
-        return first_label(codes, start, count, fields, escape_at, escape_label, label);
+        return first_label(
+            edge_codes,
+            start,
+            count,
+            fields,
+            escape_at,
+            escape_label,
+            label,
+        );
     }
-    first_code(codes, start, count, code)
+    first_code(edge_codes, start, count, code)
 }
 
 pub fn target_at(targets: &[u32], edge: usize) -> u32
@@ -161,7 +169,7 @@ pub fn field(
     short: &[u16],
     long_at: &[u32],
     long_value: &[u64],
-    codes: &[u16],
+    edge_codes: &[u16],
     targets: &[u32],
     fields: &[u32],
     escape_at: &[u64],
@@ -171,14 +179,22 @@ pub fn field(
     label: u32,
 ) -> Field
     ensures { λ r. ⌜ (
-        let graph = edgeColumns entry bases short «long_at» «long_value» codes targets fields «escape_at» «escape_label» in
+        let graph = edgeColumns entry bases short «long_at» «long_value» «edge_codes» targets fields «escape_at» «escape_label» in
         fieldSays r ≡ fieldFound graph (entry table) object label) ⌝ }
 {
-    let at = ask_span::span(bases, short, long_at, long_value, codes, targets, object);
+    let at = ask_span::span(
+        bases,
+        short,
+        long_at,
+        long_value,
+        edge_codes,
+        targets,
+        object,
+    );
     match at {
         Span::Edges { start, end } => {
             let sought = seek(
-                codes,
+                edge_codes,
                 start,
                 end - start,
                 fields,
@@ -221,7 +237,7 @@ pub fn referent(
     short: &[u16],
     long_at: &[u32],
     long_value: &[u64],
-    codes: &[u16],
+    edge_codes: &[u16],
     targets: &[u32],
     fields: &[u32],
     escape_at: &[u64],
@@ -233,7 +249,7 @@ pub fn referent(
     label: u32,
 ) -> Referent
     ensures { λ r. ⌜ (
-        let graph = graphColumns entry bases short «long_at» «long_value» codes targets fields «escape_at» «escape_label» «weak_from» «weak_to» in
+        let graph = graphColumns entry bases short «long_at» «long_value» «edge_codes» targets fields «escape_at» «escape_label» «weak_from» «weak_to» in
         referentSays r ≡ referentFound graph (entry table) object label) ⌝ }
 {
     let held = field(
@@ -241,7 +257,7 @@ pub fn referent(
         short,
         long_at,
         long_value,
-        codes,
+        edge_codes,
         targets,
         fields,
         escape_at,

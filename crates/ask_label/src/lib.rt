@@ -68,7 +68,7 @@ pub fn coarse_label(
     short: &[u16],
     long_at: &[u32],
     long_value: &[u64],
-    codes: &[u16],
+    edge_codes: &[u16],
     targets: &[u32],
     fields: &[u32],
     escape_at: &[u64],
@@ -77,14 +77,28 @@ pub fn coarse_label(
     edge: usize,
 ) -> CoarseLabel
     ensures { λ r. ⌜ (
-        let graph = edgeColumns entry bases short «long_at» «long_value» codes targets fields «escape_at» «escape_label» in
+        let graph = edgeColumns entry bases short «long_at» «long_value» «edge_codes» targets fields «escape_at» «escape_label» in
         coarseSays r ≡ coarseAt graph object edge) ⌝ }
 {
-    let whole = ask_span::span(bases, short, long_at, long_value, codes, targets, object);
+    let whole = ask_span::span(
+        bases,
+        short,
+        long_at,
+        long_value,
+        edge_codes,
+        targets,
+        object,
+    );
     let at = with_edge(whole, edge);
     match at {
         Span::Edges { start, end: _ } => {
-            let label = labels::read::coarse(codes, start + edge, fields, escape_at, escape_label);
+            let label = labels::read::coarse(
+                edge_codes,
+                start + edge,
+                fields,
+                escape_at,
+                escape_label,
+            );
             coarse_answer(label, object)
         }
         Span::Index(i) => CoarseLabel::Index(i),
@@ -98,7 +112,7 @@ pub fn exact_label(
     short: &[u16],
     long_at: &[u32],
     long_value: &[u64],
-    codes: &[u16],
+    edge_codes: &[u16],
     targets: &[u32],
     fields: &[u32],
     escape_at: &[u64],
@@ -107,14 +121,29 @@ pub fn exact_label(
     edge: usize,
 ) -> ExactLabel
     ensures { λ r. ⌜ (
-        let graph = edgeColumns entry bases short «long_at» «long_value» codes targets fields «escape_at» «escape_label» in
+        let graph = edgeColumns entry bases short «long_at» «long_value» «edge_codes» targets fields «escape_at» «escape_label» in
         Labelled object (edgeAsked (spanIn graph object) edge) (exactSays r) (exactOf graph object edge)) ⌝ }
 {
-    let whole = ask_span::span(bases, short, long_at, long_value, codes, targets, object);
+    let whole = ask_span::span(
+        bases,
+        short,
+        long_at,
+        long_value,
+        edge_codes,
+        targets,
+        object,
+    );
     let at = with_edge(whole, edge);
     match at {
         Span::Edges { start, end: _ } => {
-            let label = labels::read::exact(codes, start, edge, fields, escape_at, escape_label);
+            let label = labels::read::exact(
+                edge_codes,
+                start,
+                edge,
+                fields,
+                escape_at,
+                escape_label,
+            );
             exact_answer(label, object)
         }
         Span::Index(i) => ExactLabel::Index(i),
@@ -144,7 +173,7 @@ pub fn label_of(
     short: &[u16],
     long_at: &[u32],
     long_value: &[u64],
-    codes: &[u16],
+    edge_codes: &[u16],
     targets: &[u32],
     fields: &[u32],
     escape_at: &[u64],
@@ -153,10 +182,18 @@ pub fn label_of(
     target: u32,
 ) -> LabelOf
     ensures { λ r. ⌜ (
-        let graph = edgeColumns entry bases short «long_at» «long_value» codes targets fields «escape_at» «escape_label» in
+        let graph = edgeColumns entry bases short «long_at» «long_value» «edge_codes» targets fields «escape_at» «escape_label» in
         Labelled object (spanIn graph object) (labelOfSays r) (labelOf graph object target)) ⌝ }
 {
-    let at = ask_span::span(bases, short, long_at, long_value, codes, targets, object);
+    let at = ask_span::span(
+        bases,
+        short,
+        long_at,
+        long_value,
+        edge_codes,
+        targets,
+        object,
+    );
     match at {
         Span::Edges { start, end } => {
             let count = end - start;
@@ -164,7 +201,14 @@ pub fn label_of(
             if count <= edge {
                 return LabelOf::Nothing;
             }
-            let label = labels::read::exact(codes, start, edge, fields, escape_at, escape_label);
+            let label = labels::read::exact(
+                edge_codes,
+                start,
+                edge,
+                fields,
+                escape_at,
+                escape_label,
+            );
             target_answer(label, object)
         }
         Span::Index(i) => LabelOf::Index(i),

@@ -20,27 +20,27 @@ pub fn read_code(code: u16, next: u32, fields: &[u32]) -> EdgeLabel
 }
 
 // An edge's field label, or just `ARRAY_ELEMENT` for an element.
-pub fn coarse(codes: &[u16], edge: usize, fields: &[u32]) -> EdgeLabel
-    requires { ⌜ edge < length (now codes) ⌝ }
-    ensures { λ r. ⌜ readSays r ≡ coarseBack (plainOf (entry codes) (entry fields)) edge ⌝ }
+pub fn coarse(edge_codes: &[u16], edge: usize, fields: &[u32]) -> EdgeLabel
+    requires { ⌜ edge < length (now «edge_codes») ⌝ }
+    ensures { λ r. ⌜ readSays r ≡ coarseBack (plainOf (entry «edge_codes») (entry fields)) edge ⌝ }
 {
     let none: [u64; 0] = [0; 0];
-    labels::read::coarse(codes, edge, fields, &none, &fields[..0])
+    labels::read::coarse(edge_codes, edge, fields, &none, &fields[..0])
 }
 
 // The exact label of an object's first edge to a target.
 pub fn label_of(
     bases: &[u64],
     short: &[u16],
-    codes: &[u16],
+    edge_codes: &[u16],
     targets: &[u32],
     fields: &[u32],
     object: usize,
     target: u32,
 ) -> LabelOf
-    ensures { λ r. ⌜ labelOfSays r ≡ labelFound (leanEdges entry bases short codes targets fields) object target ⌝ }
+    ensures { λ r. ⌜ labelOfSays r ≡ labelFound (leanEdges entry bases short «edge_codes» targets fields) object target ⌝ }
 {
-    let at = span(bases, short, codes.len(), targets.len(), object);
+    let at = span(bases, short, edge_codes.len(), targets.len(), object);
     match at {
         Span::Edges { start, end } => {
             let count = end - start;
@@ -48,7 +48,14 @@ pub fn label_of(
             if count <= edge {
                 return LabelOf::Nothing;
             }
-            let label = labels::read::exact(codes, start, edge, fields, &bases[..0], &fields[..0]);
+            let label = labels::read::exact(
+                edge_codes,
+                start,
+                edge,
+                fields,
+                &bases[..0],
+                &fields[..0],
+            );
             ask_label::target_answer(label, object)
         }
         Span::Index(i) => LabelOf::Index(i),

@@ -19,13 +19,13 @@ ghost use Rattle.ask_field.specs.Sought.{decoded, soughtIn, fieldFound, firstWe
 ghost use Rattle.ask_short.specs.Lean.{plainOf, leanColumns, leanEdges};
 
 // The first edge with a label that has no code: each edge's label is read.
-fn first_label(codes: &[u16], start: usize, count: usize, fields: &[u32], label: u32) -> Sought
-    requires { ⌜ start + count ≤ length (now codes) ⌝ }
-    ensures { λ r. ⌜ r ≡ decoded (plainOf (entry codes) (entry fields)) start count label ⌝ }
+fn first_label(edge_codes: &[u16], start: usize, count: usize, fields: &[u32], label: u32) -> Sought
+    requires { ⌜ start + count ≤ length (now «edge_codes») ⌝ }
+    ensures { λ r. ⌜ r ≡ decoded (plainOf (entry «edge_codes») (entry fields)) start count label ⌝ }
 {
     let mut k = 0;
     while k < count {
-        let read = ask_short::label::coarse(codes, start + k, fields);
+        let read = ask_short::label::coarse(edge_codes, start + k, fields);
         match read {
             EdgeLabel::Is(l) => {
                 if l == label {
@@ -43,46 +43,46 @@ fn first_label(codes: &[u16], start: usize, count: usize, fields: &[u32], label:
 
 // The first edge whose coarse label matches. A field with a code is found by comparing codes.
 fn seek(
-    codes: &[u16],
+    edge_codes: &[u16],
     start: usize,
     count: usize,
     fields: &[u32],
     table: &[u16],
     label: u32,
 ) -> Sought
-    requires { ⌜ start + count ≤ length (now codes) ⌝ }
-    ensures { λ r. ⌜ r ≡ soughtIn (plainOf (entry codes) (entry fields)) (entry table) start count label ⌝ }
+    requires { ⌜ start + count ≤ length (now «edge_codes») ⌝ }
+    ensures { λ r. ⌜ r ≡ soughtIn (plainOf (entry «edge_codes») (entry fields)) (entry table) start count label ⌝ }
 {
     if label == Label::ARRAY_ELEMENT {
-        return ask_field::first_element(codes, start, count);
+        return ask_field::first_element(edge_codes, start, count);
     }
     if Label::ARRAY_ELEMENT <= label {
         return Sought::Nothing;
     }
     let code = ask_field::code_of(fields, table, label);
     if code == ESCAPED {
-        return first_label(codes, start, count, fields, label);
+        return first_label(edge_codes, start, count, fields, label);
     }
-    ask_field::first_code(codes, start, count, code)
+    ask_field::first_code(edge_codes, start, count, code)
 }
 
 // The target of a field of an object: of its first edge whose coarse label matches.
 pub fn field(
     bases: &[u64],
     short: &[u16],
-    codes: &[u16],
+    edge_codes: &[u16],
     targets: &[u32],
     fields: &[u32],
     table: &[u16],
     object: usize,
     label: u32,
 ) -> Field
-    ensures { λ r. ⌜ fieldSays r ≡ fieldFound (leanEdges entry bases short codes targets fields) (entry table) object label ⌝ }
+    ensures { λ r. ⌜ fieldSays r ≡ fieldFound (leanEdges entry bases short «edge_codes» targets fields) (entry table) object label ⌝ }
 {
-    let at = ask_short::span(bases, short, codes.len(), targets.len(), object);
+    let at = ask_short::span(bases, short, edge_codes.len(), targets.len(), object);
     match at {
         Span::Edges { start, end } => {
-            let sought = seek(codes, start, end - start, fields, table, label);
+            let sought = seek(edge_codes, start, end - start, fields, table, label);
             match sought {
                 Sought::At(k) => Field::Target(ask_field::target_at(targets, start + k)),
                 Sought::Nothing => Field::Nothing,
@@ -146,7 +146,7 @@ fn first_weak(short: &[u16], weak_from: &[u32], weak_to: &[u32], object: usize) 
 pub fn referent(
     bases: &[u64],
     short: &[u16],
-    codes: &[u16],
+    edge_codes: &[u16],
     targets: &[u32],
     fields: &[u32],
     table: &[u16],
@@ -155,9 +155,18 @@ pub fn referent(
     object: usize,
     label: u32,
 ) -> Referent
-    ensures { λ r. ⌜ referentSays r ≡ referentFound (leanColumns entry bases short codes targets fields «weak_from» «weak_to») (entry table) object label ⌝ }
+    ensures { λ r. ⌜ referentSays r ≡ referentFound (leanColumns entry bases short «edge_codes» targets fields «weak_from» «weak_to») (entry table) object label ⌝ }
 {
-    let held = field(bases, short, codes, targets, fields, table, object, label);
+    let held = field(
+        bases,
+        short,
+        edge_codes,
+        targets,
+        fields,
+        table,
+        object,
+        label,
+    );
     match held {
         Field::Target(t) => Referent::Target(t),
         Field::Nothing => first_weak(short, weak_from, weak_to, object),

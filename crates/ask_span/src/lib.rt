@@ -53,11 +53,11 @@ pub fn span(
     short: &[u16],
     long_at: &[u32],
     long_value: &[u64],
-    codes: &[u16],
+    edge_codes: &[u16],
     targets: &[u32],
     object: usize,
 ) -> Span
-    ensures { λ r. ⌜ spanSays r ≡ spanOf (offsetColumns entry bases short «long_at» «long_value») (length (entry codes)) (length (entry targets)) object ⌝ }
+    ensures { λ r. ⌜ spanSays r ≡ spanOf (offsetColumns entry bases short «long_at» «long_value») (length (entry «edge_codes»)) (length (entry targets)) object ⌝ }
 {
     if short.len() <= object {
         return Span::Index(object);
@@ -67,7 +67,7 @@ pub fn span(
     }
     let first = store::offset_at(bases, short, long_at, long_value, object);
     let next = store::offset_at(bases, short, long_at, long_value, object + 1);
-    between(first, next, codes.len(), targets.len(), object)
+    between(first, next, edge_codes.len(), targets.len(), object)
 }
 
 // How many edges an object has.
@@ -76,13 +76,21 @@ pub fn edge_count(
     short: &[u16],
     long_at: &[u32],
     long_value: &[u64],
-    codes: &[u16],
+    edge_codes: &[u16],
     targets: &[u32],
     object: usize,
 ) -> EdgeCount
-    ensures { λ r. ⌜ edgeCountSays r ≡ countOf (spanOf (offsetColumns entry bases short «long_at» «long_value») (length (entry codes)) (length (entry targets)) object) ⌝ }
+    ensures { λ r. ⌜ edgeCountSays r ≡ countOf (spanOf (offsetColumns entry bases short «long_at» «long_value») (length (entry «edge_codes»)) (length (entry targets)) object) ⌝ }
 {
-    let at = span(bases, short, long_at, long_value, codes, targets, object);
+    let at = span(
+        bases,
+        short,
+        long_at,
+        long_value,
+        edge_codes,
+        targets,
+        object,
+    );
     match at {
         Span::Edges { start, end } => EdgeCount::Edges(end - start),
         Span::Index(i) => EdgeCount::Index(i),
@@ -112,21 +120,21 @@ pub fn targets_of<'a>(targets: &'a [u32], at: Span) -> &'a [u32]
 
 // The codes of an object, as a part of their column, by the span that `span` gave, which says whether there is such an object. Of a refusal, or of a span that
 // is none of this column's, the part is empty.
-pub fn codes_of<'a>(codes: &'a [u16], at: Span) -> &'a [u16]
-    ensures { λ r. ⌜ now r ≡ spanPart (spanSays at) (entry codes) ⌝ }
+pub fn codes_of<'a>(edge_codes: &'a [u16], at: Span) -> &'a [u16]
+    ensures { λ r. ⌜ now r ≡ spanPart (spanSays at) (entry «edge_codes») ⌝ }
 {
     match at {
         Span::Edges { start, end } => {
             if end < start {
-                return &codes[0..0];
+                return &edge_codes[0..0];
             }
-            if codes.len() < end {
-                return &codes[0..0];
+            if edge_codes.len() < end {
+                return &edge_codes[0..0];
             }
-            &codes[start..end]
+            &edge_codes[start..end]
         }
-        Span::Index(_) => &codes[0..0],
-        Span::Columns(_) => &codes[0..0],
+        Span::Index(_) => &edge_codes[0..0],
+        Span::Columns(_) => &edge_codes[0..0],
     }
 }
 

@@ -11,11 +11,11 @@ use Rattle.rules.specs.Input.{slotCount, elementCount}
 use Rattle.rules.specs.Verdict.{badSpan, badPart}
 use Rattle.check_ids.specs.Spans.{slotsOf, partLength, copiedSpanFault, rawSpanFault, copiedSpans, rawSpans}
 
-pub copied-span-fault : (kinds classes lengths starts slotStart slotEnd codes : List ℕ) (o : ℕ)
+pub copied-span-fault : (kinds classes lengths slotStart slotEnd codes starts : List ℕ) (o : ℕ)
     → badSpan (copiedSpans kinds classes lengths slotStart slotEnd codes starts) o
     ≡ copiedSpanFault (kinds ! o) (starts ! o) (partLength (kinds ! o) (classes ! o) (lengths ! o) slotStart slotEnd) (length codes)
 unfolding badSpan badPart slotCount elementCount copiedSpanFault partLength slotsOf
-copied-span-fault kinds classes lengths starts slotStart slotEnd codes o = refl
+copied-span-fault kinds classes lengths slotStart slotEnd codes starts o = refl
 
 pub raw-span-fault : (kinds lengths starts bodies bytes : List ℕ) (size o : ℕ)
     → badSpan (rawSpans kinds lengths bytes size starts bodies) o ≡ rawSpanFault (kinds ! o) (lengths ! o) (starts ! o) (bodies ! o) (length bytes) size

@@ -103,9 +103,9 @@ pub fn code_parts(
         labels,
         names,
         table,
-        edge_codes,
         escape_at,
         escape_label,
+        edge_codes,
     );
     code_stages::settle::settle(
         r,

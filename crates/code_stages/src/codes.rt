@@ -36,9 +36,9 @@ pub fn codes_stage(
     labels: &[u32],
     names: usize,
     table: &[u16],
-    edge_codes: &mut [u16],
     escape_at: &mut [u64],
     escape_label: &mut [u32],
+    edge_codes: &mut [u16],
 ) -> Built
     requires { ⌜ Where (builtSays v) (CodesReady names (now table) (now offsets) (now labels)) ⌝ }
     ensures { λ r. ⌜ CodesCoded (builtSays v) names (entry table) (entry offsets) (entry labels)
@@ -65,6 +65,6 @@ pub fn codes_stage(
     if answers::is_short(rows, escape_at.len(), escape_label.len()) {
         return answers::room(7);
     }
-    label_codes::write_escapes(edge_codes, labels, escape_at, escape_label);
+    label_codes::write_escapes(labels, edge_codes, escape_at, escape_label);
     answers::with_escapes(c, rows)
 }

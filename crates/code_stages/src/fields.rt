@@ -107,10 +107,10 @@ pub fn write_fields(
             static_types,
             labels,
             names,
+            fields,
             table,
             counting,
             ranking,
-            fields,
         );
         write_table(fields, n, names, table);
         return;

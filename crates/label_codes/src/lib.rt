@@ -11,7 +11,7 @@ ghost use Rattle.columns.specs.Lists.{one};
 ghost use Rattle.columns.specs.Columns.{over};
 ghost use Rattle.columns.specs.Loans.{entry, exit};
 ghost use Rattle.rules.specs.Labels.{isEscaped};
-ghost use Rattle.labels.specs.Coding.{Room, gapOf, codeBy, codesBy, allBy, LaidOut, escapesIn, escapedTo, RoomFor, Escapes, EscapesCounted, CodesLaid};
+ghost use Rattle.labels.specs.Coding.{Room, gapOf, codeBy, codesBy, allBy, LaidOut, escapesIn, escapedTo, RoomFor, Escapes, EscapesCounted};
 
 // The gap from what is expected up to an index: 32,767 stands for it and all over. Elements rise, so that none is below what is expected.
 fn gap_of(index: u32, next: u32) -> u16
@@ -36,31 +36,37 @@ fn code_of(label: u32, next: u32, names: usize, table: &[u16]) -> u16
 }
 
 // The codes of one object's labels. The first element's gap is its index.
-fn code_object(labels: &[u32], names: usize, table: &[u16], codes: &mut [u16])
-    requires { ⌜ Room names (now table) × (length (now labels) ≤ length (now codes)) ⌝ }
-    ensures { λ _. ⌜ exit codes ≡ over (codesBy names (entry table) (entry labels)) (entry codes) ⌝ }
+fn code_object(labels: &[u32], names: usize, table: &[u16], edge_codes: &mut [u16])
+    requires { ⌜ Room names (now table) × (length (now labels) ≤ length (now «edge_codes»)) ⌝ }
+    ensures { λ _. ⌜ exit «edge_codes» ≡ over (codesBy names (entry table) (entry labels)) (entry «edge_codes») ⌝ }
 {
     let mut next = 0;
     let mut i = 0;
     while i < labels.len() {
         let label = labels[i];
-        codes[i] = code_of(label, next, names, table);
+        edge_codes[i] = code_of(label, next, names, table);
         next = after(label, next);
         i += 1;
     }
 }
 
 // The codes of all objects. No element is carried over to the next object.
-pub fn code_objects(offsets: &[u64], labels: &[u32], names: usize, table: &[u16], codes: &mut [u16])
-    requires { ⌜ Room names (now table) × LaidOut (now offsets) (length (now labels)) × (length (now labels) ≤ length (now codes)) ⌝ }
-    ensures { λ _. ⌜ exit codes ≡ over (allBy names (entry table) (entry offsets) (entry labels) (length (entry offsets) - 1)) (entry codes) ⌝ }
+pub fn code_objects(
+    offsets: &[u64],
+    labels: &[u32],
+    names: usize,
+    table: &[u16],
+    edge_codes: &mut [u16],
+)
+    requires { ⌜ Room names (now table) × LaidOut (now offsets) (length (now labels)) × (length (now labels) ≤ length (now «edge_codes»)) ⌝ }
+    ensures { λ _. ⌜ exit «edge_codes» ≡ over (allBy names (entry table) (entry offsets) (entry labels) (length (entry offsets) - 1)) (entry «edge_codes») ⌝ }
 {
     let objects = offsets.len() - 1;
     let mut o = 0;
     while o < objects {
         let from = offsets[o] as usize;
         let to = offsets[o + 1] as usize;
-        code_object(&labels[from..to], names, table, &mut codes[from..to]);
+        code_object(&labels[from..to], names, table, &mut edge_codes[from..to]);
         o += 1;
     }
 }
@@ -108,19 +114,19 @@ pub fn count_escapes(offsets: &[u64], labels: &[u32], names: usize, table: &[u16
 
 // The escapes among the codes of the labels: the edge, and the label whole.
 pub fn write_escapes(
-    codes: &[u16],
     labels: &[u32],
+    edge_codes: &[u16],
     escape_at: &mut [u64],
     escape_label: &mut [u32],
 ) -> usize
-    requires { ⌜ length (now labels) ≤ length (now codes) ⌝ }
-    requires { ⌜ RoomFor (length (escapedTo (now codes) (length (now labels)))) (now «escape_at») (now «escape_label») ⌝ }
-    ensures { λ r. ⌜ Escapes (entry codes) (entry labels) (entry «escape_at») (entry «escape_label») r (exit «escape_at») (exit «escape_label») ⌝ }
+    requires { ⌜ length (now labels) ≤ length (now «edge_codes») ⌝ }
+    requires { ⌜ RoomFor (length (escapedTo (now «edge_codes») (length (now labels)))) (now «escape_at») (now «escape_label») ⌝ }
+    ensures { λ r. ⌜ Escapes (entry «edge_codes») (entry labels) (entry «escape_at») (entry «escape_label») r (exit «escape_at») (exit «escape_label») ⌝ }
 {
     let mut k = 0;
     let mut e = 0;
     while e < labels.len() {
-        if codes[e] % ELEMENT == ESCAPED {
+        if edge_codes[e] % ELEMENT == ESCAPED {
             escape_at[k] = e as u64;
             escape_label[k] = labels[e];
             k += 1;
@@ -130,25 +136,6 @@ pub fn write_escapes(
         }
     }
     k
-}
-
-// The codes of all labels and their escapes, each column from its front; the answer is the number of escapes.
-pub fn write_codes(
-    offsets: &[u64],
-    labels: &[u32],
-    names: usize,
-    table: &[u16],
-    codes: &mut [u16],
-    escape_at: &mut [u64],
-    escape_label: &mut [u32],
-) -> usize
-    requires { ⌜ Room names (now table) × LaidOut (now offsets) (length (now labels)) × (length (now labels) ≤ length (now codes)) ⌝ }
-    requires { ⌜ RoomFor (escapesIn (allBy names (now table) (now offsets) (now labels) (length (now offsets) - 1))) (now «escape_at») (now «escape_label») ⌝ }
-    ensures { λ r. ⌜ CodesLaid names (entry table) (entry offsets) (entry labels) (entry codes) (entry «escape_at») (entry «escape_label») r (exit codes)
-        (exit «escape_at») (exit «escape_label») ⌝ }
-{
-    code_objects(offsets, labels, names, table, codes);
-    write_escapes(codes, labels, escape_at, escape_label)
 }
 
 // The need of buffer 8: one code for each label.

@@ -49,13 +49,13 @@ fn mark(label: u32, names: usize, table: &mut [u16])
 }
 
 // The labels of one class's slots; or of a range of edges, where the fields that occur are counted.
-pub fn mark_slots(labels: &[u32], from: usize, to: usize, names: usize, table: &mut [u16])
-    requires { ⌜ (from ≤ to) × (to ≤ length (now labels)) × Room names (now table) ⌝ }
-    ensures { λ _. ⌜ exit table ≡ markLabels names (entry table) (slotsNamed (entry labels) from (to - from)) ⌝ }
+pub fn mark_slots(slot_labels: &[u32], from: usize, to: usize, names: usize, table: &mut [u16])
+    requires { ⌜ (from ≤ to) × (to ≤ length (now «slot_labels»)) × Room names (now table) ⌝ }
+    ensures { λ _. ⌜ exit table ≡ markLabels names (entry table) (slotsNamed (entry «slot_labels») from (to - from)) ⌝ }
 {
     let mut i = from;
     while i < to {
-        mark(labels[i], names, table);
+        mark(slot_labels[i], names, table);
         i += 1;
     }
 }
@@ -63,18 +63,18 @@ pub fn mark_slots(labels: &[u32], from: usize, to: usize, names: usize, table: &
 // The names of one class's object statics.
 fn mark_statics(
     static_names: &[u32],
-    types: &[u8],
+    static_types: &[u8],
     from: usize,
     to: usize,
     names: usize,
     table: &mut [u16],
 )
-    requires { ⌜ (from ≤ to) × (to ≤ length (now «static_names»)) × (to ≤ length (now types)) × Room names (now table) ⌝ }
-    ensures { λ _. ⌜ exit table ≡ markLabels names (entry table) (staticsNamed (entry «static_names») (entry types) from (to - from)) ⌝ }
+    requires { ⌜ (from ≤ to) × (to ≤ length (now «static_names»)) × (to ≤ length (now «static_types»)) × Room names (now table) ⌝ }
+    ensures { λ _. ⌜ exit table ≡ markLabels names (entry table) (staticsNamed (entry «static_names») (entry «static_types») from (to - from)) ⌝ }
 {
     let mut i = from;
     while i < to {
-        if types[i] == 2 {
+        if static_types[i] == 2 {
             mark(static_names[i], names, table);
             i += 1;
         } else {

@@ -62,12 +62,12 @@ pub fn write_fields(
     static_types: &[u8],
     labels: &[u32],
     names: usize,
-    table: &mut [u16],
-    counts: &mut [u64],
-    keys: &mut [u64],
     fields: &mut [u32],
+    table: &mut [u16],
+    counting: &mut [u64],
+    ranking: &mut [u64],
 ) -> usize
-    requires { ⌜ Room names (now table) × Room names (now counts) × Room names (now keys) × (length (now labels) ≤ 4294967295) ⌝ }
+    requires { ⌜ Room names (now table) × Room names (now counting) × Room names (now ranking) × (length (now labels) ≤ 4294967295) ⌝ }
     requires { ⌜ Ranges (nameColumns now «slot_starts» «slot_ends» «static_starts» «static_ends» «slot_labels» «static_names» «static_types») classes ⌝ }
     requires { ⌜ (
         let columns = nameColumns now «slot_starts» «slot_ends» «static_starts» «static_ends» «slot_labels» «static_names» «static_types» in
@@ -94,5 +94,5 @@ pub fn write_fields(
         fields::write_marked(table, names, fields);
         return listed;
     }
-    label_ranks::rank_fields(labels, names, counts, keys, fields)
+    label_ranks::rank_fields(labels, names, fields, counting, ranking)
 }

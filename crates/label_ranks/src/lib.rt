@@ -10,14 +10,14 @@ ghost use Rattle.labels.specs.Fields.{first, Chosen};
 ghost use Rattle.label_ranks.specs.Keys.{uses, keyOf, keyLabels, Keyed, Of32Bits};
 
 // How often each label occurs on the edges, by its place in the table.
-pub fn count_uses(labels: &[u32], names: usize, counts: &mut [u64])
-    requires { ⌜ Room names (now counts) × (now counts ≡ zeros (length (now counts))) ⌝ }
-    ensures { λ _. ⌜ now (counts .exit) ≡ uses names (now (counts .entry)) (now (labels .entry)) ⌝ }
+pub fn count_uses(labels: &[u32], names: usize, counting: &mut [u64])
+    requires { ⌜ Room names (now counting) × (now counting ≡ zeros (length (now counting))) ⌝ }
+    ensures { λ _. ⌜ now (counting .exit) ≡ uses names (now (counting .entry)) (now (labels .entry)) ⌝ }
 {
     let mut i = 0;
     while i < labels.len() {
         let at = slot_of(labels[i], names);
-        counts[at] = counts[at] + 1;
+        counting[at] = counting[at] + 1;
         i += 1;
     }
 }
@@ -31,16 +31,16 @@ fn key_of(count: u64, label: u32) -> u64
 }
 
 // The keys of the labels that occur; the answer is how many they are.
-fn write_keys(counts: &[u64], names: usize, keys: &mut [u64]) -> usize
-    requires { ⌜ Room names (now counts) × Room names (now keys) × Of32Bits (now counts) ⌝ }
-    ensures { λ r. ⌜ Keyed names (now (counts .entry)) (now (keys .entry)) r (now (keys .exit)) ⌝ }
+fn write_keys(counting: &[u64], names: usize, ranking: &mut [u64]) -> usize
+    requires { ⌜ Room names (now counting) × Room names (now ranking) × Of32Bits (now counting) ⌝ }
+    ensures { λ r. ⌜ Keyed names (now (counting .entry)) (now (ranking .entry)) r (now (ranking .exit)) ⌝ }
 {
     let mut k = 0;
     let mut i = 0;
     while i <= names {
-        let count = counts[i];
+        let count = counting[i];
         if 0 < count {
-            keys[k] = key_of(count, label_at(i, names));
+            ranking[k] = key_of(count, label_at(i, names));
             k += 1;
             i += 1;
         } else {
@@ -51,13 +51,13 @@ fn write_keys(counts: &[u64], names: usize, keys: &mut [u64]) -> usize
 }
 
 // The labels of the first n keys.
-fn write_ranked(keys: &[u64], n: usize, fields: &mut [u32])
-    requires { ⌜ (n ≤ length (now keys)) × (n ≤ length (now fields)) ⌝ }
-    ensures { λ _. ⌜ now (fields .exit) ≡ over (keyLabels (now (keys .entry)) n) (now (fields .entry)) ⌝ }
+fn write_ranked(ranking: &[u64], n: usize, fields: &mut [u32])
+    requires { ⌜ (n ≤ length (now ranking)) × (n ≤ length (now fields)) ⌝ }
+    ensures { λ _. ⌜ now (fields .exit) ≡ over (keyLabels (now (ranking .entry)) n) (now (fields .entry)) ⌝ }
 {
     let mut i = 0;
     while i < n {
-        fields[i] = (keys[i] % 4294967296) as u32;
+        fields[i] = (ranking[i] % 4294967296) as u32;
         i += 1;
     }
 }
@@ -73,18 +73,18 @@ pub fn coded_of(used: usize) -> usize
 pub fn rank_fields(
     labels: &[u32],
     names: usize,
-    counts: &mut [u64],
-    keys: &mut [u64],
     fields: &mut [u32],
+    counting: &mut [u64],
+    ranking: &mut [u64],
 ) -> usize
-    requires { ⌜ Room names (now counts) × Room names (now keys) × (length (now labels) ≤ 4294967295) × (length (first names (now labels)) ≤ length (now fields)) ⌝ }
+    requires { ⌜ Room names (now counting) × Room names (now ranking) × (length (now labels) ≤ 4294967295) × (length (first names (now labels)) ≤ length (now fields)) ⌝ }
     ensures { λ r. ⌜ Chosen (first names (now (labels .entry))) (now (fields .entry)) r (now (fields .exit)) ⌝ }
 {
-    columns::zero_u64(counts, 0);
-    count_uses(labels, names, counts);
-    let used = write_keys(counts, names, keys);
-    sort::sort_u64(&mut keys[0..used]);
+    columns::zero_u64(counting, 0);
+    count_uses(labels, names, counting);
+    let used = write_keys(counting, names, ranking);
+    sort::sort_u64(&mut ranking[0..used]);
     let n = coded_of(used);
-    write_ranked(keys, n, fields);
+    write_ranked(ranking, n, fields);
     n
 }

@@ -1,4 +1,4 @@
--- What the contracts come to: reading what `write_codes` left gives the labels, exact and coarse. Assumes nothing.
+-- What the contracts come to: reading what the coding left gives the labels, exact and coarse. Assumes nothing.
 use Prim.Native.Nat.{ℕ, _+_, _≤_, _<_}
 use native.Mathlib.Omega.{arith}
 use mathlib.Core.Path.{_≡_, sym, ap, _∙_}
@@ -25,7 +25,7 @@ says-is : (r : EdgeLabel) (l : ℕ) → readSays r ≡ l ∷ [] → r ≡ Is l
 says-is (Is x) l e = let z : x ≡ l = cc in ap Is z
 says-is Bad l e = let z : _≡_ {A = ℕ} 0 1 = cc in absurd (omega arith)
 
--- Columns that meet PARTS, coded over any fields that have codes, and what `write_codes` left of them.
+-- Columns that meet PARTS, coded over any fields that have codes, and what the coding left of them.
 module _ (names : ℕ) (p : Parts) (law : Meets names p) (small : (e : ℕ) → p .labels ! e < 4294967296) (fields : List ℕ) (few : length fields ≤ 32767) where
   abbrev d : Coded
   d = coded fields (p .offsets) (p .labels) (objectsOf p)

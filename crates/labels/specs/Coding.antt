@@ -73,7 +73,7 @@ pub record EscapesCounted (names : ℕ) (table offsets labels : List ℕ) (r : �
   pub rows : r ≡ escapesIn (allBy names table offsets labels (length offsets - 1))
   pub need : (fields : List ℕ) → TableOf names fields table → r ≡ length (coded fields offsets labels (length offsets - 1) .escapeAt)
 
--- What `write_codes` leaves, whatever fields the table is of: the coded columns over the fronts of those that it is lent; r is the number of escapes.
+-- What coding all objects leaves, whatever fields the table is of: the coded columns over the fronts of those that it is lent; r is the number of escapes.
 pub record LabelsLaid (d : Coded) (c₀ a₀ l₀ : List ℕ) (r : ℕ) (c a l : List ℕ) : Type 0 where
   pub rows : r ≡ length (d .escapeAt)
   pub codes : c ≡ over (d .codes) c₀

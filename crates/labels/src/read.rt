@@ -91,16 +91,16 @@ pub fn read_code(
 
 // An edge's field label, or just `ARRAY_ELEMENT` for an element.
 pub fn coarse(
-    codes: &[u16],
+    edge_codes: &[u16],
     edge: usize,
     fields: &[u32],
     escape_at: &[u64],
     escape_label: &[u32],
 ) -> EdgeLabel
-    requires { ⌜ edge < length (now codes) ⌝ }
-    ensures { λ r. ⌜ readSays r ≡ coarseBack (codedOf (now (codes .entry)) (now (fields .entry)) (now («escape_at» .entry)) (now («escape_label» .entry))) edge ⌝ }
+    requires { ⌜ edge < length (now «edge_codes») ⌝ }
+    ensures { λ r. ⌜ readSays r ≡ coarseBack (codedOf (now («edge_codes» .entry)) (now (fields .entry)) (now («escape_at» .entry)) (now («escape_label» .entry))) edge ⌝ }
 {
-    let code = codes[edge];
+    let code = edge_codes[edge];
     if ELEMENT <= code {
         return EdgeLabel::Is(Label::ARRAY_ELEMENT);
     }
@@ -109,22 +109,22 @@ pub fn coarse(
 
 // The label of an object's k-th edge, by the labels of the edges before it.
 fn walk(
-    codes: &[u16],
+    edge_codes: &[u16],
     start: usize,
     k: usize,
     fields: &[u32],
     escape_at: &[u64],
     escape_label: &[u32],
 ) -> EdgeLabel
-    requires { ⌜ start + k < length (now codes) ⌝ }
-    ensures { λ r. ⌜ readSays r ≡ walkBack (codedOf (now (codes .entry)) (now (fields .entry)) (now («escape_at» .entry)) (now («escape_label» .entry))) start k ⌝ }
+    requires { ⌜ start + k < length (now «edge_codes») ⌝ }
+    ensures { λ r. ⌜ readSays r ≡ walkBack (codedOf (now («edge_codes» .entry)) (now (fields .entry)) (now («escape_at» .entry)) (now («escape_label» .entry))) start k ⌝ }
 {
     let mut next = 0;
     let mut i = 0;
     while i < k {
         let edge = start + i;
         match read_code(
-            codes[edge],
+            edge_codes[edge],
             edge as u64,
             next,
             fields,
@@ -142,7 +142,7 @@ fn walk(
     }
     let last = start + k;
     read_code(
-        codes[last],
+        edge_codes[last],
         last as u64,
         next,
         fields,
@@ -153,20 +153,20 @@ fn walk(
 
 // An edge's label: the k-th of the object whose edges begin at `start`. An element's index adds up the gaps before it.
 pub fn exact(
-    codes: &[u16],
+    edge_codes: &[u16],
     start: usize,
     k: usize,
     fields: &[u32],
     escape_at: &[u64],
     escape_label: &[u32],
 ) -> EdgeLabel
-    requires { ⌜ start + k < length (now codes) ⌝ }
-    ensures { λ r. ⌜ readSays r ≡ exactBack (codedOf (now (codes .entry)) (now (fields .entry)) (now («escape_at» .entry)) (now («escape_label» .entry))) start k ⌝ }
+    requires { ⌜ start + k < length (now «edge_codes») ⌝ }
+    ensures { λ r. ⌜ readSays r ≡ exactBack (codedOf (now («edge_codes» .entry)) (now (fields .entry)) (now («escape_at» .entry)) (now («escape_label» .entry))) start k ⌝ }
 {
     let edge = start + k;
-    let code = codes[edge];
+    let code = edge_codes[edge];
     if ELEMENT <= code {
-        return walk(codes, start, k, fields, escape_at, escape_label);
+        return walk(edge_codes, start, k, fields, escape_at, escape_label);
     }
     read_code(code, edge as u64, 0, fields, escape_at, escape_label)
 }

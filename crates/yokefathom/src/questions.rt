@@ -24,13 +24,21 @@ pub extern "C" fn yokefathom_span(
     short: &[u16],
     long_at: &[u32],
     long_value: &[u64],
-    codes: &[u16],
+    edge_codes: &[u16],
     targets: &[u32],
     answer: &mut [u64; 4],
 )
-    ensures { λ _. ⌜ exit answer ≡ told 4 (spanOf (offsetColumns entry bases short «long_at» «long_value») (length (entry codes)) (length (entry targets)) object) ⌝ }
+    ensures { λ _. ⌜ exit answer ≡ told 4 (spanOf (offsetColumns entry bases short «long_at» «long_value») (length (entry «edge_codes»)) (length (entry targets)) object) ⌝ }
 {
-    let found = ask_span::span(bases, short, long_at, long_value, codes, targets, object);
+    let found = ask_span::span(
+        bases,
+        short,
+        long_at,
+        long_value,
+        edge_codes,
+        targets,
+        object,
+    );
     let says = answer_numbers::span(found);
     *answer = says;
 }
@@ -43,13 +51,21 @@ pub extern "C" fn yokefathom_edge_count(
     short: &[u16],
     long_at: &[u32],
     long_value: &[u64],
-    codes: &[u16],
+    edge_codes: &[u16],
     targets: &[u32],
     answer: &mut [u64; 4],
 )
-    ensures { λ _. ⌜ exit answer ≡ told 4 (countOf (spanOf (offsetColumns entry bases short «long_at» «long_value») (length (entry codes)) (length (entry targets)) object)) ⌝ }
+    ensures { λ _. ⌜ exit answer ≡ told 4 (countOf (spanOf (offsetColumns entry bases short «long_at» «long_value») (length (entry «edge_codes»)) (length (entry targets)) object)) ⌝ }
 {
-    let found = ask_span::edge_count(bases, short, long_at, long_value, codes, targets, object);
+    let found = ask_span::edge_count(
+        bases,
+        short,
+        long_at,
+        long_value,
+        edge_codes,
+        targets,
+        object,
+    );
     let says = answer_numbers::edge_count(found);
     *answer = says;
 }
@@ -79,7 +95,7 @@ pub extern "C" fn yokefathom_coarse_label(
     short: &[u16],
     long_at: &[u32],
     long_value: &[u64],
-    codes: &[u16],
+    edge_codes: &[u16],
     targets: &[u32],
     fields: &[u32],
     escape_at: &[u64],
@@ -87,7 +103,7 @@ pub extern "C" fn yokefathom_coarse_label(
     answer: &mut [u64; 4],
 )
     ensures { λ _. ⌜ (
-        let graph = edgeColumns entry bases short «long_at» «long_value» codes targets fields «escape_at» «escape_label» in
+        let graph = edgeColumns entry bases short «long_at» «long_value» «edge_codes» targets fields «escape_at» «escape_label» in
         exit answer ≡ told 4 (coarseAt graph object edge)) ⌝ }
 {
     let found = ask_label::coarse_label(
@@ -95,7 +111,7 @@ pub extern "C" fn yokefathom_coarse_label(
         short,
         long_at,
         long_value,
-        codes,
+        edge_codes,
         targets,
         fields,
         escape_at,
@@ -116,7 +132,7 @@ pub extern "C" fn yokefathom_exact_label(
     short: &[u16],
     long_at: &[u32],
     long_value: &[u64],
-    codes: &[u16],
+    edge_codes: &[u16],
     targets: &[u32],
     fields: &[u32],
     escape_at: &[u64],
@@ -124,7 +140,7 @@ pub extern "C" fn yokefathom_exact_label(
     answer: &mut [u64; 4],
 )
     ensures { λ _. ⌜ (
-        let graph = edgeColumns entry bases short «long_at» «long_value» codes targets fields «escape_at» «escape_label» in
+        let graph = edgeColumns entry bases short «long_at» «long_value» «edge_codes» targets fields «escape_at» «escape_label» in
         (exit answer ≡ told 4 (heard (exit answer))) × Labelled object (edgeAsked (spanIn graph object) edge) (heard (exit answer)) (exactOf graph object edge)) ⌝ }
 {
     let found = ask_label::exact_label(
@@ -132,7 +148,7 @@ pub extern "C" fn yokefathom_exact_label(
         short,
         long_at,
         long_value,
-        codes,
+        edge_codes,
         targets,
         fields,
         escape_at,
@@ -153,7 +169,7 @@ pub extern "C" fn yokefathom_label_of(
     short: &[u16],
     long_at: &[u32],
     long_value: &[u64],
-    codes: &[u16],
+    edge_codes: &[u16],
     targets: &[u32],
     fields: &[u32],
     escape_at: &[u64],
@@ -161,7 +177,7 @@ pub extern "C" fn yokefathom_label_of(
     answer: &mut [u64; 4],
 )
     ensures { λ _. ⌜ (
-        let graph = edgeColumns entry bases short «long_at» «long_value» codes targets fields «escape_at» «escape_label» in
+        let graph = edgeColumns entry bases short «long_at» «long_value» «edge_codes» targets fields «escape_at» «escape_label» in
         (exit answer ≡ told 4 (heard (exit answer))) × Labelled object (spanIn graph object) (heard (exit answer)) (labelOf graph object target)) ⌝ }
 {
     let found = ask_label::label_of(
@@ -169,7 +185,7 @@ pub extern "C" fn yokefathom_label_of(
         short,
         long_at,
         long_value,
-        codes,
+        edge_codes,
         targets,
         fields,
         escape_at,
@@ -190,7 +206,7 @@ pub extern "C" fn yokefathom_field(
     short: &[u16],
     long_at: &[u32],
     long_value: &[u64],
-    codes: &[u16],
+    edge_codes: &[u16],
     targets: &[u32],
     fields: &[u32],
     escape_at: &[u64],
@@ -199,7 +215,7 @@ pub extern "C" fn yokefathom_field(
     answer: &mut [u64; 4],
 )
     ensures { λ _. ⌜ (
-        let graph = edgeColumns entry bases short «long_at» «long_value» codes targets fields «escape_at» «escape_label» in
+        let graph = edgeColumns entry bases short «long_at» «long_value» «edge_codes» targets fields «escape_at» «escape_label» in
         exit answer ≡ told 4 (fieldFound graph (entry table) object label)) ⌝ }
 {
     let found = ask_field::field(
@@ -207,7 +223,7 @@ pub extern "C" fn yokefathom_field(
         short,
         long_at,
         long_value,
-        codes,
+        edge_codes,
         targets,
         fields,
         escape_at,
@@ -229,7 +245,7 @@ pub extern "C" fn yokefathom_referent(
     short: &[u16],
     long_at: &[u32],
     long_value: &[u64],
-    codes: &[u16],
+    edge_codes: &[u16],
     targets: &[u32],
     fields: &[u32],
     escape_at: &[u64],
@@ -240,7 +256,7 @@ pub extern "C" fn yokefathom_referent(
     answer: &mut [u64; 4],
 )
     ensures { λ _. ⌜ (
-        let graph = graphColumns entry bases short «long_at» «long_value» codes targets fields «escape_at» «escape_label» «weak_from» «weak_to» in
+        let graph = graphColumns entry bases short «long_at» «long_value» «edge_codes» targets fields «escape_at» «escape_label» «weak_from» «weak_to» in
         exit answer ≡ told 4 (referentFound graph (entry table) object label)) ⌝ }
 {
     let found = ask_field::referent(
@@ -248,7 +264,7 @@ pub extern "C" fn yokefathom_referent(
         short,
         long_at,
         long_value,
-        codes,
+        edge_codes,
         targets,
         fields,
         escape_at,
@@ -317,13 +333,21 @@ pub extern "C" fn yokefathom_lean_label_of(
     target: u32,
     bases: &[u64],
     short: &[u16],
-    codes: &[u16],
+    edge_codes: &[u16],
     targets: &[u32],
     fields: &[u32],
 ) -> u64
-    ensures { λ r. ⌜ r ≡ replyOf (labelFound (leanEdges entry bases short codes targets fields) object target) ⌝ }
+    ensures { λ r. ⌜ r ≡ replyOf (labelFound (leanEdges entry bases short «edge_codes» targets fields) object target) ⌝ }
 {
-    let found = ask_short::label::label_of(bases, short, codes, targets, fields, object, target);
+    let found = ask_short::label::label_of(
+        bases,
+        short,
+        edge_codes,
+        targets,
+        fields,
+        object,
+        target,
+    );
     answer_replies::label_reply(found)
 }
 
@@ -333,14 +357,23 @@ pub extern "C" fn yokefathom_lean_field(
     label: u32,
     bases: &[u64],
     short: &[u16],
-    codes: &[u16],
+    edge_codes: &[u16],
     targets: &[u32],
     fields: &[u32],
     table: &[u16],
 ) -> u64
-    ensures { λ r. ⌜ r ≡ replyOf (fieldFound (leanEdges entry bases short codes targets fields) (entry table) object label) ⌝ }
+    ensures { λ r. ⌜ r ≡ replyOf (fieldFound (leanEdges entry bases short «edge_codes» targets fields) (entry table) object label) ⌝ }
 {
-    let found = ask_short_field::field(bases, short, codes, targets, fields, table, object, label);
+    let found = ask_short_field::field(
+        bases,
+        short,
+        edge_codes,
+        targets,
+        fields,
+        table,
+        object,
+        label,
+    );
     answer_replies::field_reply(found)
 }
 
@@ -350,19 +383,19 @@ pub extern "C" fn yokefathom_lean_referent(
     label: u32,
     bases: &[u64],
     short: &[u16],
-    codes: &[u16],
+    edge_codes: &[u16],
     targets: &[u32],
     fields: &[u32],
     table: &[u16],
     weak_from: &[u32],
     weak_to: &[u32],
 ) -> u64
-    ensures { λ r. ⌜ r ≡ replyOf (referentFound (leanColumns entry bases short codes targets fields «weak_from» «weak_to») (entry table) object label) ⌝ }
+    ensures { λ r. ⌜ r ≡ replyOf (referentFound (leanColumns entry bases short «edge_codes» targets fields «weak_from» «weak_to») (entry table) object label) ⌝ }
 {
     let found = ask_short_field::referent(
         bases,
         short,
-        codes,
+        edge_codes,
         targets,
         fields,
         table,

@@ -110,19 +110,19 @@ same-length-6 c =
 same-length-7 : tie.Need-same-length-7
 same-length-7 c =
     at-settle c .settle .kept .1 .1 .1 .1 .1 .1 .1 .1 .1 .0
-    ∙ at-codes-stage c .codes-stage .kept .1 .1 .1 .1 .1 .1 .0
+    ∙ at-codes-stage c .codes-stage .kept .1 .1 .1 .1 .1 .0
 
 -- escape_label
 same-length-8 : tie.Need-same-length-8
 same-length-8 c =
     at-settle c .settle .kept .1 .1 .1 .1 .1 .1 .1 .1 .1 .1 .0
-    ∙ at-codes-stage c .codes-stage .kept .1 .1 .1 .1 .1 .1 .1 .0
+    ∙ at-codes-stage c .codes-stage .kept .1 .1 .1 .1 .1 .1 .0
 
 -- edge_codes
 same-length-9 : tie.Need-same-length-9
 same-length-9 c =
     at-settle c .settle .kept .1 .1 .1 .1 .1 .1 .1 .1 .1 .1 .1 .0
-    ∙ at-codes-stage c .codes-stage .kept .1 .1 .1 .1 .1 .0
+    ∙ at-codes-stage c .codes-stage .kept .1 .1 .1 .1 .1 .1 .1 .0
 
 -- counting
 same-length-10 : tie.Need-same-length-10
@@ -219,9 +219,9 @@ returns c =
     (at-write-fields c .write-fields .kept .1 .1 .1 .1 .1 .1 .1 .1 .1 .1 .1 .1 .0
     ∙ at-space-room c .space-room .kept .1 .1 .1 .1 .1 .1 .1 .1 .1 .1 .1 .1 .1 .1 .1 .1 .1 .1 .0
     ∙ at-fields-room c .fields-room .kept .1 .1 .1 .1 .1 .1 .1 .1 .1 .1 .1 .1 .0)
+    (at-codes-stage c .codes-stage .kept .1 .1 .1 .1 .1 .0)
     (at-codes-stage c .codes-stage .kept .1 .1 .1 .1 .1 .1 .0)
     (at-codes-stage c .codes-stage .kept .1 .1 .1 .1 .1 .1 .1 .0)
-    (at-codes-stage c .codes-stage .kept .1 .1 .1 .1 .1 .0)
     (at-write-fields c .write-fields .kept .1 .1 .1 .1 .1 .1 .1 .1 .1 .1 .1 .1 .1 .0)
     (at-write-fields c .write-fields .kept .1 .1 .1 .1 .1 .1 .1 .1 .1 .1 .1 .1 .1 .1 .0)
 

@@ -27,7 +27,7 @@ loop-holds : tie.Need-loop-holds Inv-loop μ-loop
 unfolding allBy
 loop-holds c =
     let a = c .before .before .before .before .args in
-    (search needs, rw (c .before .before .before .before .pre .1 .starts) (written-none (a .codes .now)))
+    (search needs, rw (c .before .before .before .before .pre .1 .starts) (written-none (a .edge-codes .now)))
 
 mul-code-object : tie.Need-mul-code-object Inv-loop μ-loop
 mul-code-object c = omega (arith, within (c .before .before))

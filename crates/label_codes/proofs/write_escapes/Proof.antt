@@ -16,21 +16,21 @@ use Rattle.label_codes.proofs.write_escapes.Statement.{statement}
 use Rattle.label_codes.proofs.write_escapes.Tie as tie
 
 abbrev Inv-loop : tie.InvT-loop
-Inv-loop codes labels a₀ l₀ k₀ e₀ a l k e =
+Inv-loop labels codes a₀ l₀ k₀ e₀ a l k e =
     (e ≤ length labels) × Written (escapedTo codes e) a₀ a k × Written (labelsTo labels codes e) l₀ l k
 
 abbrev μ-loop : tie.MeasureT-loop
-μ-loop codes labels a₀ l₀ k₀ e₀ a l k e = length labels - e
+μ-loop labels codes a₀ l₀ k₀ e₀ a l k e = length labels - e
 
 -- where the branch is taken the row is one of those that there is room for
-escapes : (c : tie.Then1 Inv-loop μ-loop) → isEscaped (c .before .before .before .before .args .codes .now ! c .before .before .before .loop .e) ≡ true
+escapes : (c : tie.Then1 Inv-loop μ-loop) → isEscaped (c .before .before .before .before .args .edge-codes .now ! c .before .before .before .loop .e) ≡ true
 escapes c = eq-eqb _ _ (c .if1 .taken)
 
-row : (c : tie.Then1 Inv-loop μ-loop) → let a = c .before .before .before .before .args in c .before .before .before .loop .k < length (escapedTo (a .codes .now) (length (a .labels .now)))
+row : (c : tie.Then1 Inv-loop μ-loop) → let a = c .before .before .before .before .args in c .before .before .before .loop .k < length (escapedTo (a .edge-codes .now) (length (a .labels .now)))
 unfolding escapedTo
 row c =
     let a = c .before .before .before .before .args in
-    omega (arith, c .before .before .before .loop .inv .1 .used, places-row (λ e. isEscaped (a .codes .now ! e)) (c .before .before .before .loop .e) (length (a .labels .now)) (escapes c) (c .before .before .loop-test .taken) .0)
+    omega (arith, c .before .before .before .loop .inv .1 .used, places-row (λ e. isEscaped (a .edge-codes .now ! e)) (c .before .before .before .loop .e) (length (a .labels .now)) (escapes c) (c .before .before .loop-test .taken) .0)
 
 loop-holds : tie.Need-loop-holds Inv-loop μ-loop
 unfolding escapedTo labelsTo places
@@ -57,7 +57,7 @@ loop-again c =
     let a = c .before .before .before .before .before .args in
     let w = c .before .before .before .before .loop .inv in
     let e = c .before .before .before .before .loop .e in
-    let t : ℕ → Bool = λ e. isEscaped (a .codes .now ! e) in
+    let t : ℕ → Bool = λ e. isEscaped (a .edge-codes .now ! e) in
     let h = escapes (c .before) in
     let r = row (c .before) in (
       search needs,
@@ -70,7 +70,7 @@ unfolding escapedTo labelsTo
 loop-again-2 c =
     let a = c .before .before .before .before .args in
     let w = c .before .before .before .loop .inv in
-    let t : ℕ → Bool = λ e. isEscaped (a .codes .now ! e) in
+    let t : ℕ → Bool = λ e. isEscaped (a .edge-codes .now ! e) in
     let stays : t (c .before .before .before .loop .e) ≡ false = ne-eqb _ _ (c .if1 .left) in
     (search needs, written-miss t (λ xs. xs) (c .before .before .before .loop .e) (w .1) stays, written-miss t (map (λ e. a .labels .now ! e)) (c .before .before .before .loop .e) (w .2) stays)
 
@@ -81,9 +81,9 @@ returns c =
     let n = length (a .labels .now) in
     let e : c .before .loop .e ≡ n = omega arith in
     record {
-      rows = sym (w .1 .used) ∙ ap (λ (n : ℕ). length (escapedTo (a .codes .now) n)) e;
-      escape-at = written-end (escapedTo (a .codes .now)) n (w .1) e;
-      escape-label = written-end (labelsTo (a .labels .now) (a .codes .now)) n (w .2) e;
+      rows = sym (w .1 .used) ∙ ap (λ (n : ℕ). length (escapedTo (a .edge-codes .now) n)) e;
+      escape-at = written-end (escapedTo (a .edge-codes .now)) n (w .1) e;
+      escape-label = written-end (labelsTo (a .labels .now) (a .edge-codes .now)) n (w .2) e;
     }
 
 pub write-escapes-spec : {M : Type 1} → statement M

@@ -22,44 +22,44 @@ abbrev μ-loop : tie.MeasureT-loop
 loop-holds : tie.Need-loop-holds Inv-loop μ-loop
 loop-holds c = (search needs, refl, refl)
 
-slot : (c : tie.After-slot-of Inv-loop μ-loop) → c .slot-of .result < length (c .before .before .before .before .before .before .args .counts .now)
+slot : (c : tie.After-slot-of Inv-loop μ-loop) → c .slot-of .result < length (c .before .before .before .before .before .before .args .counting .now)
 slot c = let a = c .before .before .before .before .before .before .args in omega (arith, slot-within (a .names) (a .labels .now ! c .before .before .before .loop .i), c .slot-of .ensures, c .before .before .before .before .before .before .pre .0 .long)
 
-mul-counts : tie.Need-mul-counts Inv-loop μ-loop
-mul-counts c = omega (arith, slot c, c .before .before .before .loop .inv .1)
+mul-counting : tie.Need-mul-counting Inv-loop μ-loop
+mul-counting c = omega (arith, slot c, c .before .before .before .loop .inv .1)
 
-slice-read-counts : tie.Need-slice-read-counts Inv-loop μ-loop
-slice-read-counts c = omega (arith, slot (c .before), c .before .before .before .before .loop .inv .1)
+slice-read-counting : tie.Need-slice-read-counting Inv-loop μ-loop
+slice-read-counting c = omega (arith, slot (c .before), c .before .before .before .before .loop .inv .1)
 
-add-counts : tie.Need-add-counts Inv-loop μ-loop
-add-counts c =
+add-counting : tie.Need-add-counting Inv-loop μ-loop
+add-counting c =
     let l = c .before .before .before .before in
     let s = l .before .before .before in
     let a = s .args in
     omega (
       arith,
-      zeros-few (a .names) (a .counts .now) (a .labels .now) (l .loop .i) (c .before .slot-of .result) (s .pre .1),
+      zeros-few (a .names) (a .counting .now) (a .labels .now) (l .loop .i) (c .before .slot-of .result) (s .pre .1),
       ap (λ (t : List ℕ). t ! c .before .slot-of .result) (l .loop .inv .2),
     )
 
-mul-counts-2 : tie.Need-mul-counts-2 Inv-loop μ-loop
-mul-counts-2 c = omega (arith, slot (c .before), c .before .before .before .before .loop .inv .1)
+mul-counting-2 : tie.Need-mul-counting-2 Inv-loop μ-loop
+mul-counting-2 c = omega (arith, slot (c .before), c .before .before .before .before .loop .inv .1)
 
-slice-write-counts : tie.Need-slice-write-counts Inv-loop μ-loop
-slice-write-counts c = omega (arith, slot (c .before), c .before .before .before .before .loop .inv .1)
+slice-write-counting : tie.Need-slice-write-counting Inv-loop μ-loop
+slice-write-counting c = omega (arith, slot (c .before), c .before .before .before .before .loop .inv .1)
 
 loop-again : tie.Need-loop-again Inv-loop μ-loop
 loop-again c =
     let a = c .before .before .before .before .before .before .before .args in
     let i = c .before .before .before .before .loop .i in
     let w = c .before .before .before .before .loop .inv in
-    (search needs, search needs, rw (uses-more (a .names) (a .counts .now) (a .labels .now) i (omega arith), ← w .2, ← c .before .slot-of .ensures))
+    (search needs, search needs, rw (uses-more (a .names) (a .counting .now) (a .labels .now) i (omega arith), ← w .2, ← c .before .slot-of .ensures))
 
 returns : tie.Need-returns Inv-loop μ-loop
 returns c =
     let a = c .before .before .before .before .args in
     let e : c .before .loop .i ≡ length (a .labels .now) = omega arith in
-    c .before .loop .inv .2 ∙ ap (uses (a .names) (a .counts .now)) (ap (λ (n : ℕ). take n (a .labels .now)) e ∙ take-length (a .labels .now))
+    c .before .loop .inv .2 ∙ ap (uses (a .names) (a .counting .now)) (ap (λ (n : ℕ). take n (a .labels .now)) e ∙ take-length (a .labels .now))
 
 pub count-uses-spec : {M : Type 1} → statement M
 count-uses-spec =
@@ -71,11 +71,11 @@ count-uses-spec =
     (λ c. search needs)
     (λ c. search needs)
     (λ c κs. search needs)
-    mul-counts
-    slice-read-counts
-    add-counts
-    mul-counts-2
-    slice-write-counts
+    mul-counting
+    slice-read-counting
+    add-counting
+    mul-counting-2
+    slice-write-counting
     (λ c. search needs)
     (λ c. search needs)
     loop-again

@@ -13,7 +13,7 @@ use Rattle.label_ranks.proofs.rank_fields.Tie as tie
 count-uses-requires : tie.Need-count-uses-requires
 count-uses-requires c κs =
     let a = c .before .before .before .before .before .before .before .before .before .args in
-    (record { few = c .before .before .before .before .before .before .before .before .before .pre .0 .few; long = omega (arith, c .before .before .before .before .before .before .before .before .before .pre .0 .long) }, zeroed-own (a .counts .now) (c .before .before .before .zero-u64 .ensures))
+    (record { few = c .before .before .before .before .before .before .before .before .before .pre .0 .few; long = omega (arith, c .before .before .before .before .before .before .before .before .before .pre .0 .long) }, zeroed-own (a .counting .now) (c .before .before .before .zero-u64 .ensures))
 
 write-keys-requires : tie.Need-write-keys-requires
 write-keys-requires c κs =
@@ -23,7 +23,7 @@ write-keys-requires c κs =
     let a = s .args in (
       record { few = s .pre .0 .few; long = omega (arith, s .pre .0 .long) },
       s .pre .1,
-      counted-few (a .names) (a .labels .now) (a .counts .now) (at-zero-u64 .zero-u64 .ensures) (at-count-uses .count-uses .ensures) (s .pre .2),
+      counted-few (a .names) (a .labels .now) (a .counting .now) (at-zero-u64 .zero-u64 .ensures) (at-count-uses .count-uses .ensures) (s .pre .2),
     )
 
 part-sort-u64-end : tie.Need-part-sort-u64-end
@@ -38,7 +38,7 @@ write-ranked-requires c κs =
     let at-zero-u64 = at-count-uses .before .before .before .before in
     let s = at-zero-u64 .before .before .before .before .before .before in
     let a = s .args in
-    let at = counted (a .names) (a .labels .now) (a .counts .now) (at-zero-u64 .zero-u64 .ensures) (at-count-uses .count-uses .ensures) (s .pre .0 .few) (s .pre .0 .long) in
+    let at = counted (a .names) (a .labels .now) (a .counting .now) (at-zero-u64 .zero-u64 .ensures) (at-count-uses .count-uses .ensures) (s .pre .0 .few) (s .pre .0 .long) in
     let n = first-used (a .names) (a .labels .now) (s .pre .0 .few) (s .pre .2) at (at-write-keys .write-keys .ensures) _ [] (at-sort-u64 .sort-u64 .ensures) 32767
     (at-coded-of .coded-of .result) (at-coded-of .coded-of .ensures) in
     (omega (arith, used-within (at-write-keys .write-keys .ensures), at-coded-of .coded-of .ensures), omega (arith, n, s .pre .3))
@@ -52,7 +52,7 @@ returns c =
     let at-zero-u64 = at-count-uses .before .before .before .before in
     let s = at-zero-u64 .before .before .before .before .before .before in
     let a = s .args in
-    let at = counted (a .names) (a .labels .now) (a .counts .now) (at-zero-u64 .zero-u64 .ensures) (at-count-uses .count-uses .ensures) (s .pre .0 .few) (s .pre .0 .long) in
+    let at = counted (a .names) (a .labels .now) (a .counting .now) (at-zero-u64 .zero-u64 .ensures) (at-count-uses .count-uses .ensures) (s .pre .0 .few) (s .pre .0 .long) in
     record {
       used = first-used (a .names) (a .labels .now) (s .pre .0 .few) (s .pre .2) at (at-write-keys .write-keys .ensures) _ [] (at-sort-u64 .sort-u64 .ensures) 32767
           (at-coded-of .coded-of .result) (at-coded-of .coded-of .ensures);

@@ -28,17 +28,17 @@ key-of-requires c κs = c .before .before .before .before .before .before .befor
 loop-again : tie.Need-loop-again Inv-loop μ-loop
 loop-again c =
     let a = c .before .before .before .before .before .before .before .before .args in
-    let t = isUsed (a .counts .now) in
-    let f = keyAt (a .names) (a .counts .now) in
+    let t = isUsed (a .counting .now) in
+    let f = keyAt (a .names) (a .counting .now) in
     let i = c .before .before .before .before .before .loop .i in
-    let e : c .key-of .result ≡ f i = c .key-of .ensures ∙ ap (keyOf (a .counts .now ! i)) (c .before .label-at .ensures) in
+    let e : c .key-of .result ≡ f i = c .key-of .ensures ∙ ap (keyOf (a .counting .now ! i)) (c .before .label-at .ensures) in
     let m = map-append f (places t i) (i ∷ []) ∙ ap (λ (n : ℕ). map f (places t i) ++ (n ∷ [])) (sym e) in
     (search needs, search needs, written-hit t (map f) i (c .before .before .before .before .before .loop .inv .2) _ (lt-ltb _ _ (c .before .before .if1 .taken)) (omega arith) m)
 
 loop-again-2 : tie.Need-loop-again-2 Inv-loop μ-loop
 loop-again-2 c =
     let a = c .before .before .before .before .before .before .args in
-    (search needs, search needs, written-miss (isUsed (a .counts .now)) (map (keyAt (a .names) (a .counts .now))) (c .before .before .before .loop .i) (c .before .before .before .loop .inv .2) (le-ltb _ _ (c .if1 .left)))
+    (search needs, search needs, written-miss (isUsed (a .counting .now)) (map (keyAt (a .names) (a .counting .now))) (c .before .before .before .loop .i) (c .before .before .before .loop .inv .2) (le-ltb _ _ (c .if1 .left)))
 
 returns : tie.Need-returns Inv-loop μ-loop
 unfolding keysOf
@@ -46,7 +46,7 @@ returns c =
     let a = c .before .before .before .before .args in
     let w = c .before .loop .inv .2 in
     let e : c .before .loop .i ≡ a .names + 1 = omega arith in
-    let F : ℕ → List ℕ = λ n. map (keyAt (a .names) (a .counts .now)) (places (isUsed (a .counts .now)) n) in
+    let F : ℕ → List ℕ = λ n. map (keyAt (a .names) (a .counting .now)) (places (isUsed (a .counting .now)) n) in
     record { used = sym (w .used) ∙ ap (λ (n : ℕ). length (F n)) e; keys = written-end F (a .names + 1) w e }
 
 pub write-keys-spec : {M : Type 1} → statement M

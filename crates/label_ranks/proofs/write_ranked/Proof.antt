@@ -21,13 +21,13 @@ loop-holds c = (search needs, written-none _)
 
 loop-again : tie.Need-loop-again Inv-loop μ-loop
 loop-again c =
-    (search needs, written-tab (λ i. keyLabel (c .before .before .before .args .keys .now ! i)) (c .before .before .loop .i) _ (c .before .before .loop .inv .1) (omega arith) refl)
+    (search needs, written-tab (λ i. keyLabel (c .before .before .before .args .ranking .now ! i)) (c .before .before .loop .i) _ (c .before .before .loop .inv .1) (omega arith) refl)
 
 returns : tie.Need-returns Inv-loop μ-loop
 returns c =
     let a = c .before .before .args in
     let e : c .before .loop .i ≡ a .n = omega arith in
-    written-end (keyLabels (a .keys .now)) (a .n) (c .before .loop .inv .1) e
+    written-end (keyLabels (a .ranking .now)) (a .n) (c .before .loop .inv .1) e
 
 pub write-ranked-spec : {M : Type 1} → statement M
 write-ranked-spec =

@@ -29,13 +29,13 @@ loop-again : tie.Need-loop-again Inv-loop μ-loop
 loop-again c =
     let a = c .before .before .before .before .before .before .before .before .before .args in
     let i = c .before .before .before .before .before .before .loop .i in
-    (search needs, search needs, marking-more (a .labels .now ! i ∷ []) (c .before .before .before .before .before .before .loop .inv .2) (slots-more (a .labels .now) (a .from) i (c .before .before .before .before .before .before .loop .inv .0)) (c .before .before .mark .ensures))
+    (search needs, search needs, marking-more (a .slot-labels .now ! i ∷ []) (c .before .before .before .before .before .before .loop .inv .2) (slots-more (a .slot-labels .now) (a .from) i (c .before .before .before .before .before .before .loop .inv .0)) (c .before .before .mark .ensures))
 
 returns : tie.Need-returns Inv-loop μ-loop
 returns c =
     let a = c .before .before .before .before .args in
     let e : c .before .loop .i ≡ a .to = omega arith in
-    marking-end (λ n. slotsNamed (a .labels .now) (a .from) (n - a .from)) (a .to) (c .before .loop .inv .2) e
+    marking-end (λ n. slotsNamed (a .slot-labels .now) (a .from) (n - a .from)) (a .to) (c .before .loop .inv .2) e
 
 pub mark-slots-spec : {M : Type 1} → statement M
 mark-slots-spec =

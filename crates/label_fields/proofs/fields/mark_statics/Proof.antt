@@ -32,19 +32,19 @@ loop-again c =
     let w = c .before .before .before .before .before .before .before .before .loop .inv in
     let i = c .before .before .before .before .before .before .before .before .loop .i in
     let sn = a .static-names .now in
-    (search needs, search needs, marking-more (sn ! i ∷ []) (w .2) (statics-hit sn (a .from) i (w .0) (a .types .now) (eq-eqb _ _ (c .before .before .before .before .before .if1 .taken))) (c .before .before .mark .ensures))
+    (search needs, search needs, marking-more (sn ! i ∷ []) (w .2) (statics-hit sn (a .from) i (w .0) (a .static-types .now) (eq-eqb _ _ (c .before .before .before .before .before .if1 .taken))) (c .before .before .mark .ensures))
 
 loop-again-2 : tie.Need-loop-again-2 Inv-loop μ-loop
 loop-again-2 c =
     let a = c .before .before .before .before .before .before .before .args in
     let w = c .before .before .before .loop .inv in
-    (search needs, search needs, rw (statics-miss (a .static-names .now) (a .from) (c .before .before .before .loop .i) (w .0) (a .types .now) (ne-eqb _ _ (c .if1 .left))) (w .2))
+    (search needs, search needs, rw (statics-miss (a .static-names .now) (a .from) (c .before .before .before .loop .i) (w .0) (a .static-types .now) (ne-eqb _ _ (c .if1 .left))) (w .2))
 
 returns : tie.Need-returns Inv-loop μ-loop
 returns c =
     let a = c .before .before .before .before .before .args in
     let e : c .before .loop .i ≡ a .to = omega arith in
-    marking-end (λ n. staticsNamed (a .static-names .now) (a .types .now) (a .from) (n - a .from)) (a .to) (c .before .loop .inv .2) e
+    marking-end (λ n. staticsNamed (a .static-names .now) (a .static-types .now) (a .from) (n - a .from)) (a .to) (c .before .loop .inv .2) e
 
 pub mark-statics-spec : {M : Type 1} → statement M
 mark-statics-spec =

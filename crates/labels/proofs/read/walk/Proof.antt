@@ -25,7 +25,7 @@ loop-again c =
     let l = at-read-code .before .before .before in
     let s2 = l .before .before .before .before .before in
     let a = s2 .args in
-    let d = codedOf (a .codes .now) (a .fields .now) (a .escape-at .now) (a .escape-label .now) in
+    let d = codedOf (a .edge-codes .now) (a .fields .now) (a .escape-at .now) (a .escape-label .now) in
     let s = sym (at-read-code .read-code .ensures) ∙ ap readSays (c .before .before .label .given .1) in
     (search needs, next-more d (a .start) (l .loop .i) (l .loop .next) _ (l .loop .inv .1) s ∙ ap (λ (n : ℕ). n ∷ []) (sym (c .after .ensures)))
 
@@ -35,14 +35,14 @@ returns c =
     let l = i .before in
     let s = l .before .before .before .before .before in
     let a = s .args in
-    let d = codedOf (a .codes .now) (a .fields .now) (a .escape-at .now) (a .escape-label .now) in
+    let d = codedOf (a .edge-codes .now) (a .fields .now) (a .escape-at .now) (a .escape-label .now) in
     walk-stops d (a .start) (l .loop .i) (l .loop .next) (a .k) (i .loop-test .taken) (l .loop .inv .1)
     (sym (c .before .before .read-code .ensures) ∙ ap readSays (c .enum-told .given .1))
 
 returns-2 : tie.Need-returns-2 Inv-loop μ-loop
 returns-2 c =
     let a = c .before .before .before .before .before .before .before .before .args in
-    let d = codedOf (a .codes .now) (a .fields .now) (a .escape-at .now) (a .escape-label .now) in
+    let d = codedOf (a .edge-codes .now) (a .fields .now) (a .escape-at .now) (a .escape-label .now) in
     let e : c .before .before .before .loop .i ≡ a .k = omega arith in
     c .read-code2 .ensures ∙ walk-ends d (a .start) (a .k) (c .before .before .before .loop .next) (rw e at (c .before .before .before .loop .inv .1))
 
