@@ -16,7 +16,7 @@ use Rattle.columns.proofs.Lists.{lt-or-ge, places-at, first-none}
 use Rattle.columns.proofs.Ranks.{bisect-rank, rank-zero, rank-above, rank-next-hit, rank-next-miss, past-end}
 use Rattle.columns.proofs.First.{Searching, searching-start, searching-more}
 use Rattle.columns.proofs.Tests.{each-of, second-fails, no-places}
-use Rattle.index.specs.Copied.{Ids, ESCAPED, readBack, escapeBack, whole}
+use Rattle.index.specs.Copied.{Ids, ESCAPED, idBack, escapeBack, whole}
 use Rattle.rules.specs.Input.{Route.copied}
 use Rattle.rules.specs.Verdict.{falls, badCode, badEscape, badCopied}
 use Rattle.check_ids.specs.Copying.{hasRow, escapeId, codeFault, goodOn, walkFaults}
@@ -84,7 +84,7 @@ pub record Walk (c : Ids) (p rows good : ℕ) : Type 0 where
 module _ (c : Ids) (rise : Rises (c .places)) (even : length (c .ids) ≡ length (c .places)) where
   pub code-fault : (p rows : ℕ) → p < length (c .codes) → rows ≡ rank (c .places) p → c .ids ! rows < 2 ^ 64
       → badCode c p ≡ codeFault (c .codes ! p) (c .base) (escapeId (c .places) (c .ids) rows p)
-  unfolding badCode readBack codeFault accepts
+  unfolding badCode idBack codeFault accepts
   code-fault p rows l e small = rw (lt-ltb p (length (c .codes)) l, bisect-rank (c .places) p rise, ← e) (go (eqb (c .codes ! p) 0) (eqb (c .codes ! p) ESCAPED))
     where
       far : ℕ

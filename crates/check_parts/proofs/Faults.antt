@@ -121,11 +121,11 @@ pub expected-more : (ls : List ℕ) (k : ℕ) → after (expected ls k) (ls ! k)
 expected-more ls k = rw (add-one k)
 
 -- the labels of the first o objects are without fault
-pub record Labelled (names : ℕ) (offsets labels : List ℕ) (o : ℕ) : Type 0 where
+pub record LabelsTested (names : ℕ) (offsets labels : List ℕ) (o : ℕ) : Type 0 where
   pub none : badLabels names o offsets labels ≡ []
 
 module _ (names : ℕ) (offsets labels : List ℕ) where
-  pub labelled-none : Labelled names offsets labels 0
+  pub labelled-none : LabelsTested names offsets labels 0
   unfolding badLabels
   labelled-none = record { none = refl }
 
@@ -133,14 +133,14 @@ module _ (names : ℕ) (offsets labels : List ℕ) where
   own o = part labels (offsets ! o) (offsets ! suc o)
 
   -- by where the first fault of the object's own labels is
-  module _ (law : LaidOut offsets (length labels)) {o : ℕ} (h : Labelled names offsets labels o) (l : o + 1 < length offsets) {k : ℕ}
+  module _ (law : LaidOut offsets (length labels)) {o : ℕ} (h : LabelsTested names offsets labels o) (l : o + 1 < length offsets) {k : ℕ}
       (e : k ≡ firstPlace (badLabel names (part labels (offsets ! o) (offsets ! (o + 1)))) (length (part labels (offsets ! o) (offsets ! (o + 1))))) where
     first : k ≡ firstPlace (badLabel names (own o)) (degree offsets o)
     first =
         let next : suc o < length offsets = omega arith in
         rw (add-one o) at e ∙ ap (firstPlace (badLabel names (own o))) (part-length labels (offsets ! o) (offsets ! suc o) (laid-within law o next .1))
 
-    pub labelled-more : offsets ! (o + 1) - offsets ! o ≤ k → Labelled names offsets labels (o + 1)
+    pub labelled-more : offsets ! (o + 1) - offsets ! o ≤ k → LabelsTested names offsets labels (o + 1)
     unfolding badLabels
     labelled-more m =
         let m′ : degree offsets o ≤ k = rw (add-one o) at m in
@@ -156,7 +156,7 @@ module _ (names : ℕ) (offsets labels : List ℕ) where
         (sym (first-of (badLabel names (own o)) (degree offsets o) [] (rw first at m′) ∙ ap (take 1) (append-nil (places (badLabel names (own o)) (degree offsets o))))) in
         sym (first-collected _ (length offsets - 1) o (offsets ! o + k) (h .none) (omega arith) (first-mapped (λ j. offsets ! o + j) (places (badLabel names (own o)) (degree offsets o)) k here))
 
-  pub labelled-all : {o : ℕ} → Labelled names offsets labels o → o ≡ length offsets - 1 → [] ≡ take 1 (badLabels names (length offsets - 1) offsets labels)
+  pub labelled-all : {o : ℕ} → LabelsTested names offsets labels o → o ≡ length offsets - 1 → [] ≡ take 1 (badLabels names (length offsets - 1) offsets labels)
   labelled-all h e = rw (← e, h .none)
 
 -- COLUMN 3. Where the counts differ, the shorter length is a fault behind all others.

@@ -12,7 +12,7 @@ use Rattle.columns.specs.Columns.{accepts}
 use Rattle.columns.specs.Ranks.{Rises, bisect}
 use Rattle.columns.proofs.Sums.{total-ext, leading-within, leading-all}
 use Rattle.columns.proofs.Tests.{none-of}
-use Rattle.index.specs.Copied.{Ids, ESCAPED, readBack, escapeBack, whole}
+use Rattle.index.specs.Copied.{Ids, ESCAPED, idBack, escapeBack, whole}
 use Rattle.rules.specs.Types.{keeps}
 use Rattle.rules.specs.Input.{Input, Copied, Raw, Route.copied, Route.raw, objectCount, slotCount, elementCount, slotTotal, classOf, readSlots, slotFits, fits, slotKept, slotId, elementId, idAt, copiedId}
 use Rattle.rules.specs.Verdict.{badCode}
@@ -68,8 +68,8 @@ escape-id ps vs i k = go (allOf (ltb k (length ps) ∷ eqb (ps ! k) i ∷ ltb k 
     go false a = absurd (false≢true a)
 
 module _ (c : Ids) (p : ℕ) where
-  back-zero : accepts (readBack c p) ≡ true → eqb (readBack c p ! 1) 0 ≡ eqb (c .codes ! p) 0
-  unfolding readBack accepts
+  back-zero : accepts (idBack c p) ≡ true → eqb (idBack c p ! 1) 0 ≡ eqb (c .codes ! p) 0
+  unfolding idBack accepts
   back-zero = go (ltb p (length (c .codes))) (eqb (c .codes ! p) 0) (eqb (c .codes ! p) ESCAPED)
     where
       E : List ℕ
@@ -87,7 +87,7 @@ module _ (c : Ids) (p : ℕ) where
 
   pub code-zero : badCode c p ≡ false → eqb (copiedId c p) 0 ≡ eqb (c .codes ! p) 0
   unfolding badCode copiedId
-  code-zero h = let a = not-false (accepts (readBack c p)) h in rw a (back-zero a)
+  code-zero h = let a = not-false (accepts (idBack c p)) h in rw a (back-zero a)
 
 part-total : (b : Bool) (f g : ℕ → ℕ) (n : ℕ) → (b ≡ true → (k : ℕ) → k < n → f k ≡ g k) → total f (cond b n 0) ≡ cond b (total g n) 0
 part-total true f g n h = total-ext f g n (h refl)

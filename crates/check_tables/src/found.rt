@@ -24,7 +24,7 @@ pub fn place_for(ids: &[u64], id: u64, dumped: u8) -> usize
 }
 
 // Whether a class found at o, if that is an object, is at fault: o is no class, or is marked. If not, o is marked with the class.
-fn mark(kinds: &[u8], working: &mut [u64], o: usize, class: usize) -> bool
+fn mark_class(kinds: &[u8], working: &mut [u64], o: usize, class: usize) -> bool
     requires { ⌜ length (now kinds) < length (now working) ⌝ }
     requires { ⌜ class < 18446744073709551615 ⌝ }
     ensures { λ r. ⌜ r ≡ markFault (now (kinds .entry)) (now (working .entry)) o ⌝ }
@@ -62,7 +62,7 @@ fn first_marked(
     let mut class = 0;
     while class < class_ids.len() {
         let o = place_for(ids, class_ids[class], dumped[class]);
-        if mark(kinds, working, o, class) {
+        if mark_class(kinds, working, o, class) {
             return class;
         }
         class += 1;

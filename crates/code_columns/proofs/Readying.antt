@@ -20,7 +20,7 @@ use Rattle.rules.specs.Verdict.{schemaLengths, limits, overLimit, badClass}
 use Rattle.rules.specs.Labels.{own}
 use Rattle.rules.proofs.Meets.{Meets, isNamed}
 use Rattle.labels.specs.Fields.{Ranges}
-use Rattle.need_escapes.specs.Uncoded.{Labelled}
+use Rattle.need_escapes.specs.Uncoded.{KnownLabels}
 use Rattle.code_stages.specs.Stages.{Ready}
 use Rattle.code_columns.specs.Finished.{namingOf}
 
@@ -67,7 +67,7 @@ named-label names l e = go (ltb l names) refl (leb LOADER l) refl e
     go false p true q t = high (leb-true LOADER l q)
     go false p false q t = absurd (true≢false (sym t))
 
-pub ready-labels : (names : ℕ) (p : Parts) → Meets names p → Labelled names (p .labels)
+pub ready-labels : (names : ℕ) (p : Parts) → Meets names p → KnownLabels names (p .labels)
 ready-labels names p law e h =
     let r = locate (p .offsets) e (objectsOf p) (omega (arith, law .starts)) (omega (arith, law .ends)) in
     let o = r .0 in

@@ -12,7 +12,7 @@ use Rattle.store.specs.Blocked.{blocksOf, longRows, Filled}
 use Rattle.rules.specs.Labels.{fieldsOf, codeTable, coded}
 use Rattle.labels.specs.Coding.{LaidOut, Room, allBy, escapesIn, CodesLaid}
 use Rattle.labels.specs.Fields.{Naming, namedBy, Ranges}
-use Rattle.need_escapes.specs.Uncoded.{Labelled}
+use Rattle.need_escapes.specs.Uncoded.{KnownLabels}
 
 -- a stage that is handed a refusal hands it on
 unfoldable pub handOn : List ℕ → List ℕ → List ℕ
@@ -37,7 +37,7 @@ pub record Ready (g : Naming) (classes names : ℕ) (offsets labels : List ℕ) 
   pub few-offsets : length offsets ≤ 67108865
   pub few-labels : length labels ≤ 268435456
   pub laid : LaidOut offsets (length labels)
-  pub known : Labelled names labels
+  pub known : KnownLabels names labels
 
 -- where an answer accepts
 abbrev pub Where : List ℕ → Type 0 → Type 0

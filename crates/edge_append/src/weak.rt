@@ -17,7 +17,7 @@ fn fill(d: &mut [u32], v: u32, from: usize, to: usize)
 }
 
 // The run from one place up to another is the object's.
-pub fn settle(weak_from: &mut [u32], weak_to: &mut [u32], object: u32, from: usize, to: usize)
+pub fn close_run(weak_from: &mut [u32], weak_to: &mut [u32], object: u32, from: usize, to: usize)
     requires { ⌜ (from ≤ to) × (to ≤ length (now «weak_from»)) × (to ≤ length (now «weak_to»)) ⌝ }
     ensures { λ _. ⌜ PairsSettled object from to (now («weak_from» .entry)) (now («weak_to» .entry)) (now («weak_from» .exit)) (now («weak_to» .exit)) ⌝ }
 {

@@ -141,7 +141,7 @@ pub fn object_copied(
         weak_to,
     );
     account::tally(account, from, s1, s2, s3, s4);
-    weak::settle(
+    weak::close_run(
         weak_from,
         weak_to,
         append::narrow(object),
@@ -270,7 +270,7 @@ pub fn object_raw(
         weak_to,
     );
     account::tally(account, from, s1, s2, s3, s4);
-    weak::settle(
+    weak::close_run(
         weak_from,
         weak_to,
         append::narrow(object),

@@ -19,7 +19,7 @@ use Rattle.index.specs.declared.CodedIds.{CodedIds}
 use Rattle.index.specs.declared.CodedIds.the-variants.{Done, Room}
 use Rattle.index.specs.declared.CopiedId.{CopiedId}
 use Rattle.index.specs.declared.CopiedId.the-variants.{Id, Index, Copied}
-use Rattle.index.specs.Copied.{codedSays, idSays, ESCAPED, inline, codeOf, codesTo, isEscape, escapesTo, escapeIdsTo, escapeRows, idsOf, copiedOf, codingSays, IdsAccepted, IdsCoding, whole, escapeBack, readBack}
+use Rattle.index.specs.Copied.{idsCodedSays, idSays, ESCAPED, inline, codeOf, codesTo, isEscape, escapesTo, escapeIdsTo, escapeRows, idsOf, copiedOf, idsCodingSays, IdsAccepted, IdsCoding, whole, escapeBack, idBack}
 use Rattle.index.proofs.Verdict.{coding-accepted, accepted-says}
 use Rattle.index.proofs.Zeros.{three-zeros}
 
@@ -69,8 +69,8 @@ module _ (base : ℕ) (ids : List ℕ) (i : ℕ) (l : i < length ids) (fits : id
   code-at = tab-at (λ i. codeOf base (ids ! i)) 0 (length ids) i l
 
   -- an escape
-  escape-back : codeOf base (ids ! i) ≡ ESCAPED → readBack (copiedOf base ids) i ≡ 0 ∷ ids ! i ∷ []
-  unfolding readBack escapeBack copiedOf allOf
+  escape-back : codeOf base (ids ! i) ≡ ESCAPED → idBack (copiedOf base ids) i ≡ 0 ∷ ids ! i ∷ []
+  unfolding idBack escapeBack copiedOf allOf
   escape-back e =
       let p = places-row (isEscape base ids) i (length ids) (eq-eqb _ _ e) l in
       let k = length (escapesTo base ids i) in
@@ -80,8 +80,8 @@ module _ (base : ℕ) (ids : List ℕ) (i : ℕ) (l : i < length ids) (fits : id
       simp (tab-length, lt-ltb _ _ l, code-at, e, row, lt-ltb _ _ (p .0), eq-eqb _ _ (p .1), lt-ltb _ _ rows, id) (whole-id i (ids ! i) (code-escaped base (ids ! i) e) fits)
 
   -- any other code
-  plain-back : (codeOf base (ids ! i) ≡ ESCAPED → ⊥) → readBack (copiedOf base ids) i ≡ 0 ∷ ids ! i ∷ []
-  unfolding readBack copiedOf
+  plain-back : (codeOf base (ids ! i) ≡ ESCAPED → ⊥) → idBack (copiedOf base ids) i ≡ 0 ∷ ids ! i ∷ []
+  unfolding idBack copiedOf
   plain-back stays = rw (tab-length, lt-ltb _ _ l, code-at) (go (eqb (codeOf base (ids ! i)) 0) refl)
     where
       go : (z : Bool) → eqb (codeOf base (ids ! i)) 0 ≡ z
@@ -92,21 +92,21 @@ module _ (base : ℕ) (ids : List ℕ) (i : ℕ) (l : i < length ids) (fits : id
           rw (t, ne-eqb (codeOf base (ids ! i)) ESCAPED stays, b .0) (whole-id i (ids ! i) (b .1) fits)
 
   -- Each id reads back, for every base.
-  pub reads-back : readBack (copiedOf base ids) i ≡ 0 ∷ ids ! i ∷ []
+  pub reads-back : idBack (copiedOf base ids) i ≡ 0 ∷ ids ! i ∷ []
   reads-back = go (eqb (codeOf base (ids ! i)) ESCAPED) refl
     where
-      go : (z : Bool) → eqb (codeOf base (ids ! i)) ESCAPED ≡ z → readBack (copiedOf base ids) i ≡ 0 ∷ ids ! i ∷ []
+      go : (z : Bool) → eqb (codeOf base (ids ! i)) ESCAPED ≡ z → idBack (copiedOf base ids) i ≡ 0 ∷ ids ! i ∷ []
       go true t = escape-back (eqb-true _ _ t)
       go false t = plain-back (eqb-false _ _ t)
 
 -- What a caller has who has matched the answer: the used parts are parts, and together the coded columns.
 module _ {base : ℕ} {ids : List ℕ} {nc np ni : ℕ} {r : CodedIds} {c p v : List ℕ} (w : IdsCoding base ids nc np ni r c p v) {n k : ℕ} (e : r ≡ Done n k) where
-  done-accepts : accepts (codedSays r) ≡ true
+  done-accepts : accepts (idsCodedSays r) ≡ true
   unfolding accepts
   done-accepts = rw e
 
   done-says : 0 ∷ n ∷ k ∷ [] ≡ 0 ∷ length ids ∷ escapeRows base ids ∷ []
-  done-says = sym (ap codedSays e) ∙ w .answer ∙ accepted-says (coding-accepted base ids nc np ni r (w .answer) done-accepts)
+  done-says = sym (ap idsCodedSays e) ∙ w .answer ∙ accepted-says (coding-accepted base ids nc np ni r (w .answer) done-accepts)
 
   done-codes : n ≡ length ids
   done-codes = ap (λ (says : List ℕ). says ! 1) done-says
@@ -133,14 +133,14 @@ module _ {base : ℕ} {ids : List ℕ} {nc np ni : ℕ} {r : CodedIds} {c p v : 
       )
 
   -- ROUND TRIP. Of columns that an accepted coding left, reading place i gives the id at i, for every i.
-  pub round-trip : (i : ℕ) → i < length ids → ids ! i < 2 ^ 64 → readBack (idsOf (take n c) (take k p) (take k v) base) i ≡ 0 ∷ ids ! i ∷ []
+  pub round-trip : (i : ℕ) → i < length ids → ids ! i < 2 ^ 64 → idBack (idsOf (take n c) (take k p) (take k v) base) i ≡ 0 ∷ ids ! i ∷ []
   round-trip i h fits = rw done-used (reads-back base ids i h fits)
 
 -- ONE OUTCOME. Document 01's numbers and values tell the answers apart, and all else that a contract says is an equation.
 answerOf : List ℕ → CodedIds
 answerOf says = cond (eqb (says ! 0) 0) (Done (says ! 1) (says ! 2)) (Room (says ! 1))
 
-codedOf-says : (r : CodedIds) → answerOf (codedSays r) ≡ r
+codedOf-says : (r : CodedIds) → answerOf (idsCodedSays r) ≡ r
 unfolding answerOf
 codedOf-says (Done c e) = refl
 codedOf-says (Room k) = refl

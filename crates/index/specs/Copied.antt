@@ -16,9 +16,9 @@ use Rattle.index.specs.declared.CopiedId.{CopiedId}
 use Rattle.index.specs.declared.CopiedId.the-variants.{Id, Index, Copied}
 
 -- Document 01's number and values for each answer; 0 is acceptance, and then the lengths used, or the id, follow.
-abbrev pub codedSays : CodedIds → List ℕ
-codedSays (Done c e) = 0 ∷ c ∷ e ∷ []
-codedSays (Room k) = 9 ∷ k ∷ []
+abbrev pub idsCodedSays : CodedIds → List ℕ
+idsCodedSays (Done c e) = 0 ∷ c ∷ e ∷ []
+idsCodedSays (Room k) = 9 ∷ k ∷ []
 
 abbrev pub idSays : CopiedId → List ℕ
 idSays (Id v) = 0 ∷ v ∷ []
@@ -68,8 +68,8 @@ abbrev pub escapeRows : ℕ → List ℕ → ℕ
 escapeRows base ids = length (escapesTo base ids (length ids))
 
 -- "Coding ids can refuse only with ROOM, 15 for codes and 16 for escapes." nc, np, ni are the lengths lent.
-unfoldable pub codingSays : ℕ → List ℕ → ℕ → ℕ → ℕ → List ℕ
-codingSays base ids nc np ni =
+unfoldable pub idsCodingSays : ℕ → List ℕ → ℕ → ℕ → ℕ → List ℕ
+idsCodingSays base ids nc np ni =
     cond (ltb nc (length ids)) (9 ∷ 15 ∷ [])
     (cond (ltb np (escapeRows base ids)) (9 ∷ 16 ∷ [])
     (cond (ltb ni (escapeRows base ids)) (9 ∷ 16 ∷ [])
@@ -99,10 +99,10 @@ pub record IdsEmptied (nc np ni : ℕ) (c p v : List ℕ) : Type 0 where
 
 -- What `code_ids` answers, r, and leaves in the three columns that it is lent: all zero after a refusal.
 pub record IdsCoding (base : ℕ) (ids : List ℕ) (nc np ni : ℕ) (r : CodedIds) (c p v : List ℕ) : Type 0 where
-  pub answer : codedSays r ≡ codingSays base ids nc np ni
-  pub codes : c ≡ leaves (codedSays r) (copiedOf base ids .codes) nc
-  pub escape-places : p ≡ leaves (codedSays r) (copiedOf base ids .places) np
-  pub escape-ids : v ≡ leaves (codedSays r) (copiedOf base ids .ids) ni
+  pub answer : idsCodedSays r ≡ idsCodingSays base ids nc np ni
+  pub codes : c ≡ leaves (idsCodedSays r) (copiedOf base ids .codes) nc
+  pub escape-places : p ≡ leaves (idsCodedSays r) (copiedOf base ids .places) np
+  pub escape-ids : v ≡ leaves (idsCodedSays r) (copiedOf base ids .ids) ni
 
 -- Reading. "A non-zero code whose id is 0 or passes 64 bits" is COPIED at its position.
 unfoldable pub whole : ℕ → ℕ → List ℕ
@@ -113,8 +113,8 @@ unfoldable pub escapeBack : List ℕ → List ℕ → ℕ → ℕ → List ℕ
 escapeBack ps vs i k = cond (allOf (ltb k (length ps) ∷ eqb (ps ! k) i ∷ ltb k (length vs) ∷ [])) (whole i (vs ! k)) (5 ∷ i ∷ [])
 
 -- What `id_at` answers: INDEX past the end; id 0 for code 0; else the id, or COPIED.
-unfoldable pub readBack : Ids → ℕ → List ℕ
-readBack c i =
+unfoldable pub idBack : Ids → ℕ → List ℕ
+idBack c i =
     cond (ltb i (length (c .codes)))
     (cond (eqb (c .codes ! i) 0) (0 ∷ 0 ∷ [])
     (cond (eqb (c .codes ! i) ESCAPED) (escapeBack (c .places) (c .ids) i (bisect (c .places) i)) (whole i (c .base + 8 * (c .codes ! i - 1)))))

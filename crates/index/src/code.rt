@@ -6,7 +6,7 @@ ghost use lib.ListN.{length};
 ghost use Rattle.columns.specs.Lists.{_!_};
 ghost use Rattle.columns.specs.Columns.{accepts};
 ghost use Rattle.columns.specs.Loans.{entry, exit};
-ghost use Rattle.index.specs.Copied.{codeOf, codedSays, codingSays, escapeRows, IdsAccepted, IdsLaid, IdsFilled, IdsEmptied};
+ghost use Rattle.index.specs.Copied.{codeOf, idsCodedSays, idsCodingSays, escapeRows, IdsAccepted, IdsLaid, IdsFilled, IdsEmptied};
 
 // The code of an id that is kept whole in the escapes.
 pub const ESCAPED: u32 = 4294967295;
@@ -51,7 +51,7 @@ fn count_escapes(ids: &[u64], base: u64) -> usize
 
 // The answer, from the ids and the lengths lent for the three columns.
 pub(crate) fn judge(ids: &[u64], base: u64, nc: usize, np: usize, ni: usize) -> CodedIds
-    ensures { λ r. ⌜ codedSays r ≡ codingSays base (entry ids) nc np ni ⌝ }
+    ensures { λ r. ⌜ idsCodedSays r ≡ idsCodingSays base (entry ids) nc np ni ⌝ }
 {
     let n = ids.len();
     if nc < n {
@@ -71,7 +71,7 @@ pub(crate) fn judge(ids: &[u64], base: u64, nc: usize, np: usize, ni: usize) -> 
 }
 
 pub(crate) fn is_done(r: CodedIds) -> bool
-    ensures { λ y. ⌜ y ≡ accepts (codedSays r) ⌝ }
+    ensures { λ y. ⌜ y ≡ accepts (idsCodedSays r) ⌝ }
 {
     match r {
         CodedIds::Done {
@@ -84,7 +84,7 @@ pub(crate) fn is_done(r: CodedIds) -> bool
 
 // The escapes of an acceptance.
 pub(crate) fn rows_of(r: CodedIds) -> usize
-    ensures { λ k. ⌜ k ≡ codedSays r ! 2 ⌝ }
+    ensures { λ k. ⌜ k ≡ idsCodedSays r ! 2 ⌝ }
 {
     match r {
         CodedIds::Done { codes: _, escapes } => escapes,

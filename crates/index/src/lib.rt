@@ -6,7 +6,7 @@ mod read;
 ghost use mathlib.Core.Path.{_≡_};
 ghost use lib.ListN.{length};
 ghost use Rattle.columns.specs.Loans.{entry, exit};
-ghost use Rattle.index.specs.Copied.{IdsCoding, idSays, idsOf, readBack};
+ghost use Rattle.index.specs.Copied.{IdsCoding, idSays, idsOf, idBack};
 
 // What coding answers: the lengths used of codes and of escapes; or the refusal.
 pub enum CodedIds {
@@ -62,7 +62,7 @@ pub fn id_at(
     base: u64,
     i: usize,
 ) -> CopiedId
-    ensures { λ r. ⌜ idSays r ≡ readBack (idsOf (entry codes) (entry «escape_places») (entry «escape_ids») base) i ⌝ }
+    ensures { λ r. ⌜ idSays r ≡ idBack (idsOf (entry codes) (entry «escape_places») (entry «escape_ids») base) i ⌝ }
 {
     if codes.len() <= i {
         return CopiedId::Index(i);

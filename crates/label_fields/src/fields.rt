@@ -41,7 +41,7 @@ pub fn write_table(fields: &[u32], names: usize, table: &mut [u16])
 }
 
 // 1 at the label's place.
-fn mark(label: u32, names: usize, table: &mut [u16])
+fn mark_label(label: u32, names: usize, table: &mut [u16])
     requires { ⌜ Room names (now table) ⌝ }
     ensures { λ _. ⌜ exit table ≡ markLabel names (entry table) label ⌝ }
 {
@@ -55,7 +55,7 @@ pub fn mark_slots(slot_labels: &[u32], from: usize, to: usize, names: usize, tab
 {
     let mut i = from;
     while i < to {
-        mark(slot_labels[i], names, table);
+        mark_label(slot_labels[i], names, table);
         i += 1;
     }
 }
@@ -75,7 +75,7 @@ fn mark_statics(
     let mut i = from;
     while i < to {
         if static_types[i] == 2 {
-            mark(static_names[i], names, table);
+            mark_label(static_names[i], names, table);
             i += 1;
         } else {
             i += 1;
@@ -101,7 +101,7 @@ pub fn mark_named(
         let columns = nameColumns entry «slot_starts» «slot_ends» «static_starts» «static_ends» «slot_labels» «static_names» «static_types» in
         exit table ≡ markLabels names (entry table) (LOADER ∷ namedBy columns classes)) ⌝ }
 {
-    mark(Label::LOADER, names, table);
+    mark_label(Label::LOADER, names, table);
     let mut c = 0;
     while c < classes {
         let from = columns::index(slot_starts[c]);

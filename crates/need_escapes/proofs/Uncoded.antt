@@ -29,7 +29,7 @@ use Rattle.labels.proofs.Table.{label-places}
 use Rattle.labels.proofs.Escapes.{escapes-places, escapes-append, escapes-few}
 use Rattle.labels.proofs.Codes.{laid-within, all-length}
 use Rattle.labels.proofs.Occurring.{tab-take}
-use Rattle.need_escapes.specs.Uncoded.{Labelled, capped, isMore, usedMore, layers}
+use Rattle.need_escapes.specs.Uncoded.{KnownLabels, capped, isMore, usedMore, layers}
 use Rattle.need_escapes.proofs.Layers.{moreThan, falling, sum-behind, sort-falls, few-more, count-swap}
 use Rattle.need_escapes.proofs.Capped.{capped-count, capped-length}
 
@@ -144,7 +144,7 @@ module _ (names : ℕ) (labels : List ℕ) (few : names ≤ LOADER) where
         ∙ sym (sum-behind uses k m (ranked names labels) falls (omega (arith, used-more m (omega arith))))
 
   -- What becomes of one label where the first k of the ranking have codes.
-  module _ (k : ℕ) (codes : k ≤ 32767) (ok : Labelled names labels) (z : ℕ) where
+  module _ (k : ℕ) (codes : k ≤ 32767) (ok : KnownLabels names labels) (z : ℕ) where
     abbrev rest : List ℕ
     rest = drop k (ranked names labels)
 
@@ -249,7 +249,7 @@ not-last names table t e h l last =
     ⊎-elim (λ g. g) (λ g. let q : t ≡ 65534 = omega arith in absurd (omega (arith, e, ap (usedMore names table) q))) (lt-or-ge t 65534)
 
 -- The steps of `slow_escapes`: a table of zeros, the elements' escapes by it, the uses counted in it, and their layers.
-module _ (names : ℕ) (offsets labels t₀ : List ℕ) (room : Room names t₀) (laid : LaidOut offsets (length labels)) (ok : Labelled names labels) (short : length labels ≤ 268435456) {z t : List ℕ} (cleared-is : z ≡ cleared 0 t₀) (counted : t ≡ capped names z labels) where
+module _ (names : ℕ) (offsets labels t₀ : List ℕ) (room : Room names t₀) (laid : LaidOut offsets (length labels)) (ok : KnownLabels names labels) (short : length labels ≤ 268435456) {z t : List ℕ} (cleared-is : z ≡ cleared 0 t₀) (counted : t ≡ capped names z labels) where
   zeros-are : z ≡ zeros (length t₀)
   zeros-are = zeroed t₀ cleared-is
 

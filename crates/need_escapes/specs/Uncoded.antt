@@ -13,8 +13,8 @@ use Rattle.rules.specs.Labels.{Coded}
 use Rattle.labels.specs.Coding.{tablePlace}
 
 -- "Labels below the name count, `LOADER` or elements."
-abbrev pub Labelled : ℕ → List ℕ → Type 0
-Labelled names labels = (e : ℕ) → e < length labels → (labels ! e < names) ⊎ ((labels ! e ≡ LOADER) ⊎ (ARRAY-ELEMENT ≤ labels ! e))
+abbrev pub KnownLabels : ℕ → List ℕ → Type 0
+KnownLabels names labels = (e : ℕ) → e < length labels → (labels ! e < names) ⊎ ((labels ! e ≡ LOADER) ⊎ (ARRAY-ELEMENT ≤ labels ! e))
 
 -- How often each label is used, up to 65,535: 1 more at a label's place, and at the places of a list's labels.
 abbrev pub cap : ℕ → List ℕ → ℕ → List ℕ

@@ -9,7 +9,7 @@ ghost use Rattle.columns.specs.Loans.{entry, exit};
 ghost use Rattle.rules.specs.Labels.{coded};
 ghost use Rattle.labels.specs.Coding.{Room, LaidOut};
 ghost use Rattle.labels.specs.Fields.{first};
-ghost use Rattle.need_escapes.specs.Uncoded.{capped, usedMore, Layered, Labelled, Escaped};
+ghost use Rattle.need_escapes.specs.Uncoded.{capped, usedMore, Layered, KnownLabels, Escaped};
 
 // So many fields have codes.
 const CODED: usize = 32767;
@@ -79,7 +79,7 @@ fn count_uncoded(table: &[u16], names: usize) -> usize
 // escaped. The table is left zero.
 pub fn slow_escapes(offsets: &[u64], labels: &[u32], names: usize, table: &mut [u16]) -> usize
     requires { ⌜ Room names (now table) × LaidOut (now offsets) (length (now labels)) ⌝ }
-    requires { ⌜ Labelled names (now labels) × (length (now labels) ≤ 268435456) ⌝ }
+    requires { ⌜ KnownLabels names (now labels) × (length (now labels) ≤ 268435456) ⌝ }
     ensures { λ r. ⌜ Escaped (coded (first names (entry labels)) (entry offsets) (entry labels) (length (entry offsets) - 1)) (entry table) r (exit table) ⌝ }
 {
     columns::zero_u16(table, 0);

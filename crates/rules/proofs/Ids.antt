@@ -14,7 +14,7 @@ use Rattle.columns.specs.Columns.{accepts}
 use Rattle.columns.specs.Ranks.{bisect}
 use Rattle.columns.proofs.Sums.{part-at}
 use Rattle.columns.proofs.Tests.{none-of}
-use Rattle.index.specs.Copied.{Ids, ESCAPED, whole, escapeBack, readBack}
+use Rattle.index.specs.Copied.{Ids, ESCAPED, whole, escapeBack, idBack}
 use Rattle.rules.specs.Input.{Input, Raw, Route.raw, copiedId, bigEndian, rawId}
 use Rattle.rules.specs.Verdict.{badSize}
 use Rattle.rules.proofs.Acceptance.{Passed, size-good}
@@ -37,7 +37,7 @@ whole-fits i id = go (anyOf (eqb id 0 ∷ leb (2 ^ 64) id ∷ [])) refl
 
 -- A copied id has 64 bits, whatever the columns.
 pub copied-fits : (c : Ids) (p : ℕ) → copiedId c p < 2 ^ 64
-unfolding copiedId readBack escapeBack accepts
+unfolding copiedId idBack escapeBack accepts
 copied-fits c p =
     let k = bisect (c .places) p in
     either (ltb p (length (c .codes))) _ _

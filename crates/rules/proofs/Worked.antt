@@ -7,8 +7,7 @@ use Rattle.columns.specs.Columns.{over, padded, accepts, leaves}
 use Rattle.columns.specs.Ranks.{rank, halve, bisect}
 use Rattle.store.specs.Blocked.{blocked, longBack, shortBack}
 use Rattle.store.specs.Blocked as store
-use Rattle.index.specs.Copied.{inline, codeOf, copiedOf, whole, escapeBack}
-use Rattle.index.specs.Copied as index
+use Rattle.index.specs.Copied.{inline, codeOf, copiedOf, whole, escapeBack, idBack}
 use Rattle.rules.specs.Types.{keeps}
 use Rattle.rules.specs.Input.{slotCount, elementCount, copiedId, rawId, idAt, slotId, elementSpot, elementId, fits, slotFits, readSlots, slotKept}
 use Rattle.rules.specs.Input.{foundAt, classesAt}
@@ -30,7 +29,7 @@ use Rattle.rules.specs.Worked.{wrong, table, graphCases, enough, empty}
 
 pub worked : wrong table ≡ []
 unfolding table graphCases enough empty tab places allOf anyOf any over padded accepts leaves rank halve bisect blocked longBack shortBack store.readBack inline
-    codeOf copiedOf whole escapeBack index.readBack keeps slotCount elementCount copiedId rawId idAt slotId elementSpot elementId fits slotFits readSlots
+    codeOf copiedOf whole escapeBack idBack keeps slotCount elementCount copiedId rawId idAt slotId elementSpot elementId fits slotFits readSlots
     slotKept foundAt classesAt slotRef elementRef staticRef staticRefs loaderRef classRefs slotRefs otherRefs refs outcome edgesOf weakTargets missingAt edges
     offset weakPairs distinctRoots graph hasPlace refPlace unread placesOf placeCount named occurring listed ranked fieldsOf fieldCode codeTable codesOf
     codesFor coded readLabel expectedAt exactLabel cell account tallyClass tally isLost held lost fieldsFor labelColumns needWeak needRoots needLong needFields

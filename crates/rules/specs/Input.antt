@@ -6,7 +6,7 @@ use lib.Dec.{eqb, leb}
 use lib.ListN.{length}
 use Rattle.columns.specs.Lists.{_!_, leading, places, part, allOf}
 use Rattle.columns.specs.Columns.{accepts}
-use Rattle.index.specs.Copied.{Ids, readBack}
+use Rattle.index.specs.Copied.{Ids, idBack}
 use Rattle.rules.specs.declared.ReferencePolicy.{ReferencePolicy}
 use Rattle.rules.specs.Types.{keeps}
 
@@ -108,7 +108,7 @@ elementCount x o = cond (eqb (x .objects .kinds ! o) 1) (x .objects .lengths ! o
 
 -- A copied id is what reads back at its place; 0 where nothing does, which no accepted input meets.
 unfoldable pub copiedId : Ids → ℕ → ℕ
-copiedId c p = cond (accepts (readBack c p)) (readBack c p ! 1) 0
+copiedId c p = cond (accepts (idBack c p)) (idBack c p ! 1) 0
 
 -- A raw id is the number that its bytes write, highest byte first, over the id size.
 abbrev pub bigEndian : ℕ → List ℕ → ℕ

@@ -7,7 +7,7 @@ use lib.Dec.{eqb, leb, ltb}
 use lib.ListN.{length}
 use Rattle.columns.specs.Lists.{_!_, places, any, find, allOf, anyOf}
 use Rattle.columns.specs.Columns.{accepts}
-use Rattle.index.specs.Copied.{Ids, ESCAPED, readBack}
+use Rattle.index.specs.Copied.{Ids, ESCAPED, idBack}
 use Rattle.rules.specs.Input.{Input, Schema, Route, Route.copied, Route.raw, objectCount, classCount, slotCount, elementCount, slotTotal, slotPlace}
 use Rattle.rules.specs.Input.{staticTotal, staticPlace, foundAt}
 use Rattle.rules.specs.Edges.{Parts, graph}
@@ -134,7 +134,7 @@ badDumped x c = anyOf (badClass (x .schema) c ∷ badFind x c ∷ [])
 -- 5 COPIED: "escape places not strictly rising, an escape without code 4,294,967,295 or the reverse, a non-zero code whose id is 0 or passes 64 bits";
 -- "first escape not rising, else first bad code position, else first bad escape position." A code is bad where no id reads back.
 unfoldable pub badCode : Ids → ℕ → Bool
-badCode c p = not (accepts (readBack c p))
+badCode c p = not (accepts (idBack c p))
 
 unfoldable pub badEscape : Ids → ℕ → Bool
 badEscape c i = not (eqb (c .codes ! (c .places ! i)) ESCAPED)

@@ -5,14 +5,14 @@ use native.Mathlib.Numerals.{add-one}
 use lib.ListN.{length}
 use Rattle.columns.specs.Lists.{_!_}
 use Rattle.labels.proofs.Codes.{laid-within}
-use Rattle.check_parts.proofs.Faults.{Labelled, labelled-none, labelled-more, labelled-hit, labelled-all}
+use Rattle.check_parts.proofs.Faults.{LabelsTested, labelled-none, labelled-more, labelled-hit, labelled-all}
 use native.Mathlib.Omega.{arith}
 use borrow.Author.Needs.{needs}
 use Rattle.check_parts.proofs.edges.first_label.Statement.{statement}
 use Rattle.check_parts.proofs.edges.first_label.Tie as tie
 
 abbrev Inv-loop : tie.InvT-loop
-Inv-loop names offsets labels objects o₀ o = (o ≤ objects) × Labelled names offsets labels o
+Inv-loop names offsets labels objects o₀ o = (o ≤ objects) × LabelsTested names offsets labels o
 
 abbrev μ-loop : tie.MeasureT-loop
 μ-loop names offsets labels objects o₀ o = objects - o

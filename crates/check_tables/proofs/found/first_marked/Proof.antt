@@ -24,8 +24,8 @@ loop-holds c = (searching-start _ _, marked-start _ _ _ (c .before .before .befo
 returns-2 : tie.Need-returns-2 Inv-loop μ-loop
 returns-2 c = (searching-end _ _ (c .before .loop .inv .0) (c .loop-test .left), marked-end _ _ (c .before .loop .inv .1))
 
-mark-requires : tie.Need-mark-requires Inv-loop μ-loop
-mark-requires c κs =
+mark-class-requires : tie.Need-mark-class-requires Inv-loop μ-loop
+mark-class-requires c κs =
     let i = c .before .before .before .before in
     let l = i .before in
     let s = l .before .before .before .before .before .before in
@@ -33,30 +33,30 @@ mark-requires c κs =
 
 returns : tie.Need-returns Inv-loop μ-loop
 returns c =
-    let at-mark = c .before .before .before in
-    let at-place-for = at-mark .before .before in
+    let at-mark-class = c .before .before .before in
+    let at-place-for = at-mark-class .before .before in
     let i = at-place-for .before .before .before in
     let l = i .before in
     let s = l .before .before .before .before .before .before in
     let a = s .args in (
       searching-hit _ _ (l .loop .inv .0) (i .loop-test .taken) (tells (findColumns (a .ids .now) (a .kinds .now) (a .class-ids .now) (a .dumped .now)) (length (a .working .now))
-          (s .pre .0) (s .pre .1 .0) (s .pre .1 .1 .1 .0) (l .loop .inv .1) (at-place-for .place-for .ensures) (at-mark .mark .ensures .0) (at-mark .mark .ensures .1) ∙ c .if1 .taken),
+          (s .pre .0) (s .pre .1 .0) (s .pre .1 .1 .1 .0) (l .loop .inv .1) (at-place-for .place-for .ensures) (at-mark-class .mark-class .ensures .0) (at-mark-class .mark-class .ensures .1) ∙ c .if1 .taken),
       marked-last (findColumns (a .ids .now) (a .kinds .now) (a .class-ids .now) (a .dumped .now)) (length (a .working .now)) (s .pre .0) (s .pre .1 .0) (s .pre .1 .1 .1 .0)
-          (l .loop .inv .1) (at-place-for .place-for .ensures) (at-mark .mark .ensures .0) (at-mark .mark .ensures .1) (c .if1 .taken),
+          (l .loop .inv .1) (at-place-for .place-for .ensures) (at-mark-class .mark-class .ensures .0) (at-mark-class .mark-class .ensures .1) (c .if1 .taken),
     )
 
 loop-again : tie.Need-loop-again Inv-loop μ-loop
 loop-again c =
-    let at-mark = c .before .before .before in
-    let at-place-for = at-mark .before .before in
+    let at-mark-class = c .before .before .before in
+    let at-place-for = at-mark-class .before .before in
     let i = at-place-for .before .before .before in
     let l = i .before in
     let s = l .before .before .before .before .before .before in
     let a = s .args in (
       searching-more _ _ (l .loop .inv .0) (i .loop-test .taken) (tells (findColumns (a .ids .now) (a .kinds .now) (a .class-ids .now) (a .dumped .now)) (length (a .working .now))
-          (s .pre .0) (s .pre .1 .0) (s .pre .1 .1 .1 .0) (l .loop .inv .1) (at-place-for .place-for .ensures) (at-mark .mark .ensures .0) (at-mark .mark .ensures .1) ∙ c .if1 .left),
+          (s .pre .0) (s .pre .1 .0) (s .pre .1 .1 .1 .0) (l .loop .inv .1) (at-place-for .place-for .ensures) (at-mark-class .mark-class .ensures .0) (at-mark-class .mark-class .ensures .1) ∙ c .if1 .left),
       marked-next (findColumns (a .ids .now) (a .kinds .now) (a .class-ids .now) (a .dumped .now)) (length (a .working .now)) (s .pre .0) (s .pre .1 .0) (s .pre .1 .1 .1 .0)
-          (l .loop .inv .1) (at-place-for .place-for .ensures) (at-mark .mark .ensures .0) (at-mark .mark .ensures .1) (c .if1 .left),
+          (l .loop .inv .1) (at-place-for .place-for .ensures) (at-mark-class .mark-class .ensures .0) (at-mark-class .mark-class .ensures .1) (c .if1 .left),
     )
 
 same-length-2 : tie.Need-same-length-2 Inv-loop μ-loop
@@ -64,13 +64,13 @@ same-length-2 c = c .before .loop .inv .1 .same
 
 same-length : tie.Need-same-length Inv-loop μ-loop
 same-length c =
-    let at-mark = c .before .before .before in
-    let at-place-for = at-mark .before .before in
+    let at-mark-class = c .before .before .before in
+    let at-place-for = at-mark-class .before .before in
     let l = at-place-for .before .before .before .before in
     let s = l .before .before .before .before .before .before in
     let a = s .args in
     let m = marked-last (findColumns (a .ids .now) (a .kinds .now) (a .class-ids .now) (a .dumped .now)) (length (a .working .now)) (s .pre .0) (s .pre .1 .0) (s .pre .1 .1 .1 .0)
-    (l .loop .inv .1) (at-place-for .place-for .ensures) (at-mark .mark .ensures .0) (at-mark .mark .ensures .1) (c .if1 .taken) in
+    (l .loop .inv .1) (at-place-for .place-for .ensures) (at-mark-class .mark-class .ensures .0) (at-mark-class .mark-class .ensures .1) (c .if1 .taken) in
     marks-same _ _ _ m
 
 pub first-marked-spec : {M : Type 1} → statement M
@@ -84,7 +84,7 @@ first-marked-spec =
     (λ c. search needs)
     (λ c. search needs)
     (λ c κs. search needs)
-    mark-requires
+    mark-class-requires
     same-length
     returns
     (λ c. search needs)

@@ -12,7 +12,7 @@ use Rattle.columns.specs.Columns.{accepts}
 use Rattle.columns.specs.Ranks.{Rises, Ranked, bisect}
 use Rattle.columns.proofs.Ranks.{bisect-rank}
 use Rattle.columns.proofs.Tests.{each-of}
-use Rattle.index.specs.Copied.{idsOf, readBack, escapeBack}
+use Rattle.index.specs.Copied.{idsOf, idBack, escapeBack}
 use Rattle.rules.specs.Input.{copiedId}
 use borrow.Author.Needs.{needs}
 use Rattle.edge_sources.proofs.escape.id_from.Statement.{statement}
@@ -26,7 +26,7 @@ module _ (codes ps vs : List ℕ) (b i : ℕ) (e : allOf (ltb i (length codes) �
   code-is = eqb-true _ _ (each-of (ltb i (length codes) ∷ eqb (codes ! i) 4294967295 ∷ []) e 1)
 
   escaped-id : copiedId (idsOf codes ps vs b) i ≡ rowId ps vs i (bisect ps i)
-  unfolding copiedId readBack
+  unfolding copiedId idBack
   escaped-id =
       let inside : ltb i (length codes) ≡ true = each-of (ltb i (length codes) ∷ eqb (codes ! i) 4294967295 ∷ []) e 0 in
       simp (inside, ne-eqb (codes ! i) 0 (omega (arith, code-is)), eq-eqb (codes ! i) 4294967295 code-is)

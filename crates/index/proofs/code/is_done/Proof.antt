@@ -1,18 +1,18 @@
 -- `index::code::is_done` meets its contract: variant by variant. Assumes nothing.
 use mathlib.Core.Path.{sym, ap}
 use Rattle.columns.specs.Columns.{accepts}
-use Rattle.index.specs.Copied.{codedSays}
+use Rattle.index.specs.Copied.{idsCodedSays}
 use borrow.Author.Needs.{needs}
 use Rattle.index.proofs.code.is_done.Statement.{statement}
 use Rattle.index.proofs.code.is_done.Tie as tie
 
 returns : tie.Need-returns
 unfolding accepts
-returns c = ap (λ r. accepts (codedSays r)) (sym (c .enum-told .given .1))
+returns c = ap (λ r. accepts (idsCodedSays r)) (sym (c .enum-told .given .1))
 
 returns-2 : tie.Need-returns-2
 unfolding accepts
-returns-2 c = ap (λ r. accepts (codedSays r)) (sym (c .enum-told2 .given .1))
+returns-2 c = ap (λ r. accepts (idsCodedSays r)) (sym (c .enum-told2 .given .1))
 
 pub is-done-spec : {M : Type 1} → statement M
 is-done-spec =

@@ -81,7 +81,7 @@ returns c =
     let a = c .before .before .before .before .before .before .before .before .before .before .before .before .before .before .args in
     let e : c .before .loop .c ≡ a .classes = omega arith in
     let s = naming (a .slot-starts .now) (a .slot-ends .now) (a .static-starts .now) (a .static-ends .now) (a .slot-labels .now) (a .static-names .now) (a .static-types .now) in
-    marking-end (namedBy s) (a .classes) (c .before .loop .inv .1) e ∙ ap (λ (t : List ℕ). markLabels (a .names) t (namedBy s (a .classes))) (c .before .before .before .before .mark .ensures)
+    marking-end (namedBy s) (a .classes) (c .before .loop .inv .1) e ∙ ap (λ (t : List ℕ). markLabels (a .names) t (namedBy s (a .classes))) (c .before .before .before .before .mark-label .ensures)
 
 pub mark-named-spec : {M : Type 1} → statement M
 mark-named-spec =

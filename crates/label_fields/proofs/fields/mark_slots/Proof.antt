@@ -21,15 +21,15 @@ loop-holds : tie.Need-loop-holds Inv-loop μ-loop
 unfolding tab
 loop-holds c = (search needs, search needs, rw (sub-self (c .before .before .args .from)) (marking-none _ _))
 
-mark-requires : tie.Need-mark-requires Inv-loop μ-loop
-mark-requires c κs =
+mark-label-requires : tie.Need-mark-label-requires Inv-loop μ-loop
+mark-label-requires c κs =
     record { few = c .before .before .before .before .before .before .pre .2 .few; long = omega (arith, c .before .before .before .before .before .before .pre .2 .long, c .before .before .before .loop .inv .2 .same) }
 
 loop-again : tie.Need-loop-again Inv-loop μ-loop
 loop-again c =
     let a = c .before .before .before .before .before .before .before .before .before .args in
     let i = c .before .before .before .before .before .before .loop .i in
-    (search needs, search needs, marking-more (a .slot-labels .now ! i ∷ []) (c .before .before .before .before .before .before .loop .inv .2) (slots-more (a .slot-labels .now) (a .from) i (c .before .before .before .before .before .before .loop .inv .0)) (c .before .before .mark .ensures))
+    (search needs, search needs, marking-more (a .slot-labels .now ! i ∷ []) (c .before .before .before .before .before .before .loop .inv .2) (slots-more (a .slot-labels .now) (a .from) i (c .before .before .before .before .before .before .loop .inv .0)) (c .before .before .mark-label .ensures))
 
 returns : tie.Need-returns Inv-loop μ-loop
 returns c =
@@ -46,7 +46,7 @@ mark-slots-spec =
     loop-holds
     (λ c. search needs)
     (λ c. search needs)
-    mark-requires
+    mark-label-requires
     (λ c. search needs)
     (λ c. search needs)
     loop-again

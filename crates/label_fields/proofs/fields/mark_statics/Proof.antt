@@ -22,8 +22,8 @@ loop-holds : tie.Need-loop-holds Inv-loop μ-loop
 unfolding places
 loop-holds c = (search needs, search needs, rw (sub-self (c .before .before .before .args .from)) (marking-none _ _))
 
-mark-requires : tie.Need-mark-requires Inv-loop μ-loop
-mark-requires c κs =
+mark-label-requires : tie.Need-mark-label-requires Inv-loop μ-loop
+mark-label-requires c κs =
     record { few = c .before .before .before .before .before .before .before .before .before .pre .3 .few; long = omega (arith, c .before .before .before .before .before .before .before .before .before .pre .3 .long, c .before .before .before .before .before .loop .inv .2 .same) }
 
 loop-again : tie.Need-loop-again Inv-loop μ-loop
@@ -32,7 +32,7 @@ loop-again c =
     let w = c .before .before .before .before .before .before .before .before .loop .inv in
     let i = c .before .before .before .before .before .before .before .before .loop .i in
     let sn = a .static-names .now in
-    (search needs, search needs, marking-more (sn ! i ∷ []) (w .2) (statics-hit sn (a .from) i (w .0) (a .static-types .now) (eq-eqb _ _ (c .before .before .before .before .before .if1 .taken))) (c .before .before .mark .ensures))
+    (search needs, search needs, marking-more (sn ! i ∷ []) (w .2) (statics-hit sn (a .from) i (w .0) (a .static-types .now) (eq-eqb _ _ (c .before .before .before .before .before .if1 .taken))) (c .before .before .mark-label .ensures))
 
 loop-again-2 : tie.Need-loop-again-2 Inv-loop μ-loop
 loop-again-2 c =
@@ -56,7 +56,7 @@ mark-statics-spec =
     (λ c. search needs)
     (λ c. search needs)
     (λ c. search needs)
-    mark-requires
+    mark-label-requires
     (λ c. search needs)
     (λ c. search needs)
     loop-again

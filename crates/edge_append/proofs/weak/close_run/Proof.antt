@@ -1,13 +1,13 @@
--- `edge_append::weak::settle` meets its contract: filled, then sorted. Assumes nothing.
+-- `edge_append::weak::close_run` meets its contract: filled, then sorted. Assumes nothing.
 use borrow.Author.Needs.{needs}
-use Rattle.edge_append.proofs.weak.settle.Statement.{statement}
-use Rattle.edge_append.proofs.weak.settle.Tie as tie
+use Rattle.edge_append.proofs.weak.close_run.Statement.{statement}
+use Rattle.edge_append.proofs.weak.close_run.Tie as tie
 
 returns : tie.Need-returns
 returns c = record { objects = c .before .before .before .before .before .before .fill .ensures; sorted = c .before .before .sort-run .ensures }
 
-pub settle-spec : {M : Type 1} → statement M
-settle-spec =
+pub close-run-spec : {M : Type 1} → statement M
+close-run-spec =
     tie.close
     (tie.spec
     (λ c κs. search needs)

@@ -1,10 +1,10 @@
--- `check_tables::found::mark` meets its contract: test by test. Assumes nothing.
+-- `check_tables::found::mark_class` meets its contract: test by test. Assumes nothing.
 use borrow.Author.Tests.{lt-ltb, le-ltb}
 use Rattle.columns.specs.Lists.{allOf, anyOf}
 use Rattle.check_tables.specs.Found.{markFault, marking}
 use borrow.Author.Needs.{needs}
-use Rattle.check_tables.proofs.found.mark.Statement.{statement}
-use Rattle.check_tables.proofs.found.mark.Tie as tie
+use Rattle.check_tables.proofs.found.mark_class.Statement.{statement}
+use Rattle.check_tables.proofs.found.mark_class.Tie as tie
 
 returns : tie.Need-returns
 unfolding markFault marking allOf
@@ -25,8 +25,8 @@ unfolding markFault marking allOf anyOf
 returns-4 c =
     (simp (lt-ltb _ _ (c .before .before .before .before .if1 .left), le-ltb _ _ (c .before .before .if2 .left), le-ltb _ _ (c .if3 .left)), simp (lt-ltb _ _ (c .before .before .before .before .if1 .left), le-ltb _ _ (c .before .before .if2 .left), le-ltb _ _ (c .if3 .left)))
 
-pub mark-spec : {M : Type 1} → statement M
-mark-spec =
+pub mark-class-spec : {M : Type 1} → statement M
+mark-class-spec =
     tie.close
     (tie.spec
     returns
