@@ -25,7 +25,7 @@ pub struct Graph {
     escape_at: Vec<u64>,
     escape_label: Vec<u32>,
     codes: Vec<u16>,
-    /// References to ids that no object has.
+    /// References to ids that no object has (in a graph of [`Graph::from_parts`], the number that was handed over).
     pub dangling: u64,
     /// Distinct root objects, sorted (as they were handed over, in a graph of [`Graph::from_parts`]).
     pub roots: Vec<u32>,

@@ -21,7 +21,8 @@ pub enum Refusal {
     Root(u64),
     /// More places than the limit.
     Places,
-    /// A buffer that is smaller than its need. [`Graph`](crate::Graph) lends enough, so a host does not see this one.
+    /// A buffer that is smaller than its need. [`Graph`](crate::Graph) lends enough and never gives it;
+    /// [`SlotColumns::fill`](crate::SlotColumns::fill) does, with 17, where its columns are too short.
     Room(u64),
     /// Columns handed to `from_parts` that break their rules.
     Parts {
