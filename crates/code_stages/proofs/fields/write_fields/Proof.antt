@@ -59,8 +59,8 @@ write-table-requires c κs =
     let few : a .names ≤ LOADER = omega (arith, p .name .few-names) in
     let all-named : Named (a .names) (fields s) = fields-named (a .names) few (named-of s) (a .labels .now) in (
       (
-        record { few = few; long = omega (arith, p .room-table, at-write-fields .write-fields .kept .1 .1 .1 .1 .1 .1 .1 .1 .1 .1 .0) },
-        omega (arith, w .used, p .room-fields, at-write-fields .write-fields .kept .1 .1 .1 .1 .1 .1 .1 .1 .1 .1 .1 .1 .1 .0),
+        record { few = few; long = omega (arith, p .room-table, at-write-fields .write-fields .kept .1 .1 .1 .1 .1 .1 .1 .1 .1 .1 .1 .0) },
+        omega (arith, w .used, p .room-fields, at-write-fields .write-fields .kept .1 .1 .1 .1 .1 .1 .1 .1 .1 .1 .0),
         omega (arith, w .used, fields-few (a .names) (named-of s) (a .labels .now)),
       ),
       rw (chosen-front w) all-named,
@@ -71,7 +71,7 @@ returns c = λ y.
     let at-write-table = c .before .before in
     let at-write-fields = at-write-table .before .before .before .before .before .before .before .before .before .before .before in
     let s = at-write-fields .before .before .before .before .before .before .before .before .before .before .before .before .before .before .before .before .before .before .before in
-    fields-written (s .args .names) (at-write-fields .write-fields .last .1 .1 .1 .1 .1 .1 .1 .1 .1 .1 .0) (at-write-fields .write-fields .ensures)
+    fields-written (s .args .names) (at-write-fields .write-fields .last .1 .1 .1 .1 .1 .1 .1 .1 .1 .1 .1 .0) (at-write-fields .write-fields .ensures)
     (at-write-table .write-table .ensures)
 
 returns-2 : tie.Need-returns-2
