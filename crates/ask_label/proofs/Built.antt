@@ -19,41 +19,29 @@ use Rattle.ask_label.proofs.Labels.{coarse-promised}
 
 -- Columns that meet PARTS, as `from_parts` codes them: each call's answer is the same question on the plain columns.
 module _ (s : Schema) (p : Parts) (law : Meets (s .names) p) (few : length (p .labels) < 2 ^ 64) (o : ℕ) where
-  abbrev g : Columns
-  g = columnsOf s p
-
-  abbrev m : ℕ
-  m = objectsOf p
-
   module _ (wide : (e : ℕ) → e < length (p .labels) → p .labels ! e < 4294967296) where
-    pub coarse-kept : (k : ℕ) → coarseAt (strong g) o k ≡ plainly m o (coarseIn (edgesAt p o) k)
+    pub coarse-kept : (k : ℕ) → coarseAt (strong (columnsOf s p)) o k ≡ plainly (objectsOf p) o (coarseIn (edgesAt p o) k)
     unfolding coarseAt
-    coarse-kept k = built (coarse-promised g o k) (coarse-plain s p law few wide o k) (never-12-edge m o k coarse (edgesAt p o))
+    coarse-kept k = built (coarse-promised (columnsOf s p) o k) (coarse-plain s p law few wide o k) (never-12-edge (objectsOf p) o k coarse (edgesAt p o))
 
-    pub exact-kept : (k : ℕ) {says : List ℕ} → Labelled o (edgeAsked (spanIn (strong g) o) k) says (exactOf (strong g) o k) → says ≡ plainly m o (exactIn (edgesAt p o) k)
+    pub exact-kept : (k : ℕ) {says : List ℕ} → Labelled o (edgeAsked (spanIn (strong (columnsOf s p)) o) k) says (exactOf (strong (columnsOf s p)) o k) → says ≡ plainly (objectsOf p) o (exactIn (edgesAt p o) k)
     unfolding exactOf asked readsBack edgesRead
-    exact-kept k w = built (w .promised) (exact-plain s p law few wide o k) (never-12-edge m o k (λ l. l) (edgesAt p o))
+    exact-kept k w = built (w .promised) (exact-plain s p law few wide o k) (never-12-edge (objectsOf p) o k (λ l. l) (edgesAt p o))
 
-    pub label-kept : (t : ℕ) {says : List ℕ} → Labelled o (spanIn (strong g) o) says (labelOf (strong g) o t) → says ≡ plainly m o (0 ∷ labelIn (edgesAt p o) t)
+    pub label-kept : (t : ℕ) {says : List ℕ} → Labelled o (spanIn (strong (columnsOf s p)) o) says (labelOf (strong (columnsOf s p)) o t) → says ≡ plainly (objectsOf p) o (0 ∷ labelIn (edgesAt p o) t)
     unfolding labelOf asked readsBack edgesRead
-    label-kept t w = built (w .promised) (label-plain s p law few wide o t) (never-12 m o _)
+    label-kept t w = built (w .promised) (label-plain s p law few wide o t) (never-12 (objectsOf p) o _)
 
 -- The columns of an accepted build: the same question on the object's edges, as the input gives them.
 module _ (x : Input) (h : Passed x) (o : ℕ) where
-  abbrev c : Columns
-  c = columnsOf (x .schema) (graph x)
-
-  abbrev n : ℕ
-  n = objectCount x
-
-  pub coarse-built : (k : ℕ) → coarseAt (strong c) o k ≡ plainly n o (coarseIn (edgesOf x o) k)
+  pub coarse-built : (k : ℕ) → coarseAt (strong (columnsOf (x .schema) (graph x))) o k ≡ plainly (objectCount x) o (coarseIn (edgesOf x o) k)
   unfolding coarseAt
-  coarse-built k = built (coarse-promised c o k) (coarse-asked x h o k) (never-12-edge n o k coarse (edgesOf x o))
+  coarse-built k = built (coarse-promised (columnsOf (x .schema) (graph x)) o k) (coarse-asked x h o k) (never-12-edge (objectCount x) o k coarse (edgesOf x o))
 
-  pub exact-built : (k : ℕ) {says : List ℕ} → Labelled o (edgeAsked (spanIn (strong c) o) k) says (exactOf (strong c) o k) → says ≡ plainly n o (exactIn (edgesOf x o) k)
+  pub exact-built : (k : ℕ) {says : List ℕ} → Labelled o (edgeAsked (spanIn (strong (columnsOf (x .schema) (graph x))) o) k) says (exactOf (strong (columnsOf (x .schema) (graph x))) o k) → says ≡ plainly (objectCount x) o (exactIn (edgesOf x o) k)
   unfolding exactOf asked readsBack edgesRead
-  exact-built k w = built (w .promised) (exact-asked x h o k) (never-12-edge n o k (λ l. l) (edgesOf x o))
+  exact-built k w = built (w .promised) (exact-asked x h o k) (never-12-edge (objectCount x) o k (λ l. l) (edgesOf x o))
 
-  pub label-built : (t : ℕ) {says : List ℕ} → Labelled o (spanIn (strong c) o) says (labelOf (strong c) o t) → says ≡ plainly n o (0 ∷ labelIn (edgesOf x o) t)
+  pub label-built : (t : ℕ) {says : List ℕ} → Labelled o (spanIn (strong (columnsOf (x .schema) (graph x))) o) says (labelOf (strong (columnsOf (x .schema) (graph x))) o t) → says ≡ plainly (objectCount x) o (0 ∷ labelIn (edgesOf x o) t)
   unfolding labelOf asked readsBack edgesRead
-  label-built t w = built (w .promised) (label-asked x h o t) (never-12 n o _)
+  label-built t w = built (w .promised) (label-asked x h o t) (never-12 (objectCount x) o _)

@@ -7,11 +7,11 @@ use native.Mathlib.Omega.{arith}
 use borrow.Author.Tests.{eq-eqb}
 use Rattle.columns.specs.Lists.{_!_, places}
 use Rattle.columns.specs.Columns.{accepts}
-use Rattle.columns.proofs.Tests.{append-empty, places-none}
+use Rattle.columns.proofs.Tests.{append-empty}
 use Rattle.rules.specs.Input.{Input, Copied, Raw, Route.copied, Route.raw, objectCount, classCount, slotCount, elementCount}
 use Rattle.rules.specs.Verdict.{firstOf, at, once, badLengths, badLimit, badObject, badDumped, badCopied, badSpan}
 use Rattle.rules.specs.Places.{placeCount}
-use Rattle.rules.proofs.Acceptance.{Refuse, refuse-append, refuse-at, at-empty, once-empty, Sound, ids-rise, objects-few, classes-few, slots-ordered, slots-in, statics-ordered, statics-in, class-in, copied-span, codes-good}
+use Rattle.rules.proofs.Acceptance.{Refuse, refuse-append, refuse-at, Sound, none-sound, ids-rise, objects-few, classes-few, slots-ordered, slots-in, statics-ordered, statics-in, class-in, copied-span, codes-good}
 use Rattle.check_ids.specs.Spans.{partLength, slotsOf}
 use Rattle.check_places.specs.Placing.{RangesIn, ClassTables, PartTables, CodeTables, PartStands, rawPlaces, copiedPlaces}
 use Rattle.rules.proofs.Even.{objects-even, copied-even, input-even}
@@ -27,23 +27,16 @@ module _ (x : Input) where
       (refuse-append (refuse-at 2 refl _)
       (refuse-append (refuse-at 3 refl _) (refuse-append (refuse-at 4 refl _) (refuse-append (refuse-at 5 refl _) (refuse-append (refuse-at 6 refl _) (refuse-at 7 refl _))))))
 
-  passed : faultsBefore x ≡ [] → Sound x
+  before-sound : faultsBefore x ≡ [] → Sound x
   unfolding faultsBefore faultsLate
-  passed e =
+  before-sound e =
       let e1 = append-empty (at 1 (once (badLengths x))) _ e in
       let e2 = append-empty (at 2 (once (badLimit x))) _ (e1 .1) in
       let e3 = append-empty (at 3 (places (badObject x) (objectCount x))) _ (e2 .1) in
       let e4 = append-empty (at 4 (places (badDumped x) (classCount (x .schema)))) _ (e3 .1) in
       let e5 = append-empty (at 5 (badCopied (x .route))) _ (e4 .1) in
       let e6 = append-empty (at 6 (places (badSpan x) (objectCount x))) _ (e5 .1) in
-      record {
-        lengths = once-empty _ (at-empty 1 _ (e1 .0));
-        limits = once-empty _ (at-empty 2 _ (e2 .0));
-        object = λ o h. places-none (badObject x) _ o (at-empty 3 _ (e3 .0)) h;
-        class = λ c h. places-none (badDumped x) _ c (at-empty 4 _ (e4 .0)) h;
-        copied = at-empty 5 _ (e5 .0);
-        span = λ o h. places-none (badSpan x) _ o (at-empty 6 _ (e6 .0)) h;
-      }
+      none-sound x (e1 .0) (e2 .0) (e3 .0) (e4 .0) (e5 .0) (e6 .0)
 
   -- an answer that accepts, with the number that it tells
   module _ (n : ℕ) {says : List ℕ} (e : says ≡ firstOf (faultsBefore x) (0 ∷ n ∷ [])) (a : accepts says ≡ true) where
@@ -51,7 +44,7 @@ module _ (x : Input) where
     none-before = before-refuse .none-met (0 ∷ n ∷ []) (ap accepts (sym e) ∙ a)
 
     pub sound : Sound x
-    sound = passed none-before
+    sound = before-sound none-before
 
     pub told-before : says ! 1 ≡ n
     told-before = ap (λ (s : List ℕ). s ! 1) (e ∙ ap (λ (fs : List (List ℕ)). firstOf fs (0 ∷ n ∷ [])) none-before)

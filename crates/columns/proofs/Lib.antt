@@ -4,6 +4,7 @@ pub mod Sums
 pub mod Counts
 pub mod Every
 pub mod Parts
+pub mod Folds
 pub mod Ranks
 pub mod Search
 pub mod First

@@ -4,7 +4,7 @@ use native.Mathlib.Numerals.{add-one}
 use native.Mathlib.Omega.{arith}
 use mathlib.Core.Path.{_≡_, refl, sym, ap, ap₂, _∙_}
 use mathlib.Core.Bool.{Bool, true, false, cond}
-use mathlib.Core.List.{List, [], _∷_, _++_, map-append, append-assoc}
+use mathlib.Core.List.{List, [], _∷_, _++_, map-append, append-assoc, foldl-append}
 use mathlib.Core.Option.{Option, none, some}
 use lib.Dec.{eqb}
 use lib.ListN.{length, length-set}
@@ -12,6 +12,7 @@ use lib.Seq.{getD-set-same, getD-set-other}
 use borrow.Author.Tests.{eqb-true, eqb-false, eq-eqb, ne-eqb}
 use Rattle.columns.specs.Lists.{_!_, find, next, found}
 use Rattle.columns.proofs.Lists.{tab-more, places-hit, places-miss}
+use Rattle.columns.proofs.Folds.{fold-length}
 use Rattle.columns.proofs.Parts.{places-ext}
 use Rattle.rules.specs.Types.{LOADER}
 use Rattle.rules.specs.Labels.{occurring}
@@ -19,14 +20,6 @@ use Rattle.labels.specs.Coding.{tablePlace}
 use Rattle.labels.specs.Fields.{tableLabel, slotsNamed, isObject, staticsNamed, Naming, namedBy}
 use Rattle.label_fields.specs.Marks.{markLabel, markLabels, isMarked, markedLabels}
 use Rattle.labels.proofs.Table.{slot-label, label-slot, label-places}
-
-marks-length : (names : ℕ) (t ls : List ℕ) → length (markLabels names t ls) ≡ length t
-marks-length names t [] = refl
-marks-length names t (l ∷ ls) = marks-length names (markLabel names t l) ls ∙ length-set t (tablePlace names l) 1
-
-marks-append : (names : ℕ) (t xs ys : List ℕ) → markLabels names t (xs ++ ys) ≡ markLabels names (markLabels names t xs) ys
-marks-append names t [] ys = refl
-marks-append names t (l ∷ xs) ys = marks-append names (markLabel names t l) xs ys
 
 -- t₀ has become t, where the names of a list are marked; and some names more
 pub record Marking (names : ℕ) (t₀ ls t : List ℕ) : Type 0 where
@@ -38,8 +31,8 @@ marking-none names t = record { holds = refl; same = refl }
 
 pub marking-more : {names : ℕ} {t₀ xs t : List ℕ} (ys : List ℕ) {zs u : List ℕ} → Marking names t₀ xs t → zs ≡ xs ++ ys → u ≡ markLabels names t ys → Marking names t₀ zs u
 marking-more {names} {t₀} {xs} {t} ys {zs} {u} w e m =
-    let is : u ≡ markLabels names t₀ zs = m ∙ ap (λ (z : List ℕ). markLabels names z ys) (w .holds) ∙ sym (marks-append names t₀ xs ys) ∙ ap (markLabels names t₀) (sym e) in
-    record { holds = is; same = ap length is ∙ marks-length names t₀ zs }
+    let is : u ≡ markLabels names t₀ zs = m ∙ ap (λ (z : List ℕ). markLabels names z ys) (w .holds) ∙ sym (foldl-append (markLabel names) t₀ xs ys) ∙ ap (markLabels names t₀) (sym e) in
+    record { holds = is; same = ap length is ∙ fold-length (markLabel names) (λ t l. length-set t (tablePlace names l) 1) t₀ zs }
 
 pub marking-end : (F : ℕ → List ℕ) {names : ℕ} {t₀ t : List ℕ} {i : ℕ} (n : ℕ) → Marking names t₀ (F i) t → i ≡ n → t ≡ markLabels names t₀ (F n)
 marking-end F {names} {t₀} n w e = w .holds ∙ ap (λ (k : ℕ). markLabels names t₀ (F k)) e

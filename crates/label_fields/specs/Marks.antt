@@ -2,7 +2,7 @@
 -- they are the rule `listed` of `rules/specs/Labels.antt`. Assumes nothing.
 use Prim.Native.Nat.{ℕ, _+_}
 use mathlib.Core.Bool.{Bool}
-use mathlib.Core.List.{List, [], _∷_, map}
+use mathlib.Core.List.{List, [], _∷_, map, foldl}
 use lib.Dec.{eqb}
 use lib.ListN.{set}
 use Rattle.columns.specs.Lists.{_!_, tab, places}
@@ -18,8 +18,7 @@ abbrev pub markLabel : ℕ → List ℕ → ℕ → List ℕ
 markLabel names t l = set t (tablePlace names l) 1
 
 abbrev pub markLabels : ℕ → List ℕ → List ℕ → List ℕ
-markLabels names t [] = t
-markLabels names t (l ∷ ls) = markLabels names (markLabel names t l) ls
+markLabels names t ls = foldl (markLabel names) t ls
 
 -- The labels whose places are marked: names rising, then the loader. Where those of a list were marked in a cleared table they are the rule `listed`, by
 -- the laws `marked-cleared` and `marked-listed`.

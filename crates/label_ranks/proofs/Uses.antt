@@ -21,20 +21,8 @@ use Rattle.labels.specs.Fields.{tableLabel}
 use Rattle.label_ranks.specs.Keys.{tallyLabel, uses}
 use Rattle.labels.proofs.Table.{slot-label, label-slot}
 
-tally-length : (names : ℕ) (t : List ℕ) (l : ℕ) → length (tallyLabel names t l) ≡ length t
+pub tally-length : (names : ℕ) (t : List ℕ) (l : ℕ) → length (tallyLabel names t l) ≡ length t
 tally-length names t l = length-set t (tablePlace names l) (t ! tablePlace names l + 1)
-
-pub uses-length : (names : ℕ) (t ls : List ℕ) → length (uses names t ls) ≡ length t
-uses-length names t [] = refl
-uses-length names t (l ∷ ls) = uses-length names (tallyLabel names t l) ls ∙ tally-length names t l
-
-uses-append : (names : ℕ) (t xs ys : List ℕ) → uses names t (xs ++ ys) ≡ uses names (uses names t xs) ys
-uses-append names t [] ys = refl
-uses-append names t (l ∷ xs) ys = uses-append names (tallyLabel names t l) xs ys
-
--- the first i labels, and one more
-pub uses-more : (names : ℕ) (t labels : List ℕ) (i : ℕ) → i < length labels → uses names t (take (i + 1) labels) ≡ tallyLabel names (uses names t (take i labels)) (labels ! i)
-uses-more names t labels i h = rw (add-one i, take-suc labels i 0 h) (uses-append names t (take i labels) (labels ! i ∷ []))
 
 -- no place has more than there are labels
 tally-few : (names : ℕ) (t : List ℕ) (l s : ℕ) → tallyLabel names t l ! s ≤ t ! s + 1

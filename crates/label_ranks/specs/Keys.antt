@@ -2,7 +2,7 @@
 use Prim.Native.Nat.{ℕ, _+_, _-_, _*_, _%_, _≤_, _<_}
 use mathlib.Core.Path.{_≡_}
 use mathlib.Core.Bool.{Bool}
-use mathlib.Core.List.{List, [], _∷_, map}
+use mathlib.Core.List.{List, map, foldl}
 use lib.Dec.{ltb}
 use lib.ListN.{length, set}
 use Rattle.columns.specs.Lists.{_!_, tab, places}
@@ -15,8 +15,7 @@ abbrev pub tallyLabel : ℕ → List ℕ → ℕ → List ℕ
 tallyLabel names t l = set t (tablePlace names l) (t ! tablePlace names l + 1)
 
 abbrev pub uses : ℕ → List ℕ → List ℕ → List ℕ
-uses names t [] = t
-uses names t (l ∷ ls) = uses names (tallyLabel names t l) ls
+uses names t ls = foldl (tallyLabel names) t ls
 
 -- "Ranked by use, ties by smaller label": keys rise where use falls, and with the label where it is the same. The labels of the sorted keys are the rule
 -- `ranked`, by the law `is-ranked`.

@@ -18,20 +18,8 @@ use Rattle.labels.specs.Fields.{tableLabel}
 use Rattle.labels.proofs.Table.{slot-label, label-slot}
 use Rattle.need_escapes.specs.Uncoded.{cap, capped}
 
-cap-length : (names : ℕ) (t : List ℕ) (l : ℕ) → length (cap names t l) ≡ length t
+pub cap-length : (names : ℕ) (t : List ℕ) (l : ℕ) → length (cap names t l) ≡ length t
 cap-length names t l = length-set t (tablePlace names l) (min 65535 (t ! tablePlace names l + 1))
-
-pub capped-length : (names : ℕ) (t ls : List ℕ) → length (capped names t ls) ≡ length t
-capped-length names t [] = refl
-capped-length names t (l ∷ ls) = capped-length names (cap names t l) ls ∙ cap-length names t l
-
-capped-append : (names : ℕ) (t xs ys : List ℕ) → capped names t (xs ++ ys) ≡ capped names (capped names t xs) ys
-capped-append names t [] ys = refl
-capped-append names t (l ∷ xs) ys = capped-append names (cap names t l) xs ys
-
--- the first i labels, and one more
-pub capped-more : (names : ℕ) (t labels : List ℕ) (i : ℕ) → i < length labels → capped names t (take (i + 1) labels) ≡ cap names (capped names t (take i labels)) (labels ! i)
-capped-more names t labels i h = rw (add-one i, take-suc labels i 0 h) (capped-append names t (take i labels) (labels ! i ∷ []))
 
 -- at a label's place: how often the list has the label, up to 65,535
 module _ (names i : ℕ) (few : names ≤ LOADER) (h : i ≤ names) where

@@ -15,6 +15,7 @@ use borrow.Author.Tests.{eq-eqb, ne-eqb, eqb-true, eqb-false, lt-ltb, le-ltb, le
 use Rattle.columns.specs.Lists.{_!_, tab, places, find, next, found, sum, one, count, total, orElse}
 use Rattle.columns.specs.Columns.{zeros, cleared}
 use Rattle.columns.proofs.Written.{cleared-all, zeroed, zero-at}
+use Rattle.columns.proofs.Folds.{fold-length}
 use Rattle.columns.proofs.Lists.{lt-or-ge}
 use Rattle.columns.proofs.Parts.{places-ext}
 use Rattle.columns.proofs.Every.{Chain}
@@ -29,9 +30,9 @@ use Rattle.labels.proofs.Table.{label-places}
 use Rattle.labels.proofs.Escapes.{escapes-places, escapes-append, escapes-few}
 use Rattle.labels.proofs.Codes.{laid-within, all-length}
 use Rattle.labels.proofs.Occurring.{tab-take}
-use Rattle.need_escapes.specs.Uncoded.{KnownLabels, capped, isMore, usedMore, layers}
+use Rattle.need_escapes.specs.Uncoded.{KnownLabels, cap, capped, isMore, usedMore, layers}
 use Rattle.need_escapes.proofs.Layers.{moreThan, falling, sum-behind, sort-falls, few-more, count-swap}
-use Rattle.need_escapes.proofs.Capped.{capped-count, capped-length}
+use Rattle.need_escapes.proofs.Capped.{capped-count, cap-length}
 
 -- a number of a list occurs in it
 occurs-at : (xs : List ℕ) (e : ℕ) → e < length xs → occurs xs (xs ! e) ≡ true
@@ -257,7 +258,7 @@ module _ (names : ℕ) (offsets labels t₀ : List ℕ) (room : Room names t₀)
   at i l = ap (λ (d : List ℕ). d ! i) (counted ∙ ap (λ (d : List ℕ). capped names d labels) zeros-are) ∙ capped-count names i (room .few) l (length t₀) labels (omega (arith, room .long))
 
   same : length t ≡ length t₀
-  same = ap length counted ∙ capped-length names z labels ∙ ap length zeros-are ∙ length-replicate {A = ℕ} (length t₀) 0
+  same = ap length counted ∙ fold-length (cap names) (cap-length names) z labels ∙ ap length zeros-are ∙ length-replicate {A = ℕ} (length t₀) 0
 
   pub uses-room : Room names t
   uses-room = record { few = room .few; long = omega (arith, same, room .long) }

@@ -3,7 +3,7 @@ use Prim.Native.Nat.{ℕ, _+_, _-_, _≤_, _<_, _*_, min}
 use mathlib.Core.Path.{_≡_}
 use mathlib.Core.Logic.{_⊎_}
 use mathlib.Core.Bool.{Bool}
-use mathlib.Core.List.{List, [], _∷_}
+use mathlib.Core.List.{List, foldl}
 use lib.Dec.{ltb}
 use lib.ListN.{length, set}
 use Rattle.columns.specs.Lists.{_!_, places, total}
@@ -21,8 +21,7 @@ abbrev pub cap : ℕ → List ℕ → ℕ → List ℕ
 cap names t l = set t (tablePlace names l) (min 65535 (t ! tablePlace names l + 1))
 
 abbrev pub capped : ℕ → List ℕ → List ℕ → List ℕ
-capped names t [] = t
-capped names t (l ∷ ls) = capped names (cap names t l) ls
+capped names t ls = foldl (cap names) t ls
 
 -- how many names, and the loader, are used more often than that
 abbrev pub isMore : List ℕ → ℕ → ℕ → Bool

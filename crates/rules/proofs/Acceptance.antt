@@ -68,6 +68,18 @@ pub record Passed (x : Input) : Type 0 where
   pub root : (i : ℕ) → i < length (x .roots) → badRoot (objectCount x) (x .roots) i ≡ false
   pub few-places : overPlaces (placeCount x) ≡ false
 
+-- no fault of the tests before ROOT
+pub none-sound : (x : Input) → at 1 (once (badLengths x)) ≡ [] → at 2 (once (badLimit x)) ≡ [] → at 3 (places (badObject x) (objectCount x)) ≡ []
+    → at 4 (places (badDumped x) (classCount (x .schema))) ≡ [] → at 5 (badCopied (x .route)) ≡ [] → at 6 (places (badSpan x) (objectCount x)) ≡ [] → Sound x
+none-sound x e1 e2 e3 e4 e5 e6 = record {
+  lengths = once-empty _ (at-empty 1 _ e1);
+  limits = once-empty _ (at-empty 2 _ e2);
+  object = λ o h. places-none (badObject x) _ o (at-empty 3 _ e3) h;
+  class = λ c h. places-none (badDumped x) _ c (at-empty 4 _ e4) h;
+  copied = at-empty 5 _ e5;
+  span = λ o h. places-none (badSpan x) _ o (at-empty 6 _ e6) h;
+}
+
 pub passed : (x : Input) → faults x ≡ [] → Passed x
 unfolding faults
 passed x e =
@@ -79,14 +91,7 @@ passed x e =
     let e3 = append-empty _ (at 3 (places (badObject x) (objectCount x))) (e4 .0) in
     let e2 = append-empty (at 1 (once (badLengths x))) (at 2 (once (badLimit x))) (e3 .0) in
     record {
-      sound = record {
-        lengths = once-empty _ (at-empty 1 _ (e2 .0));
-        limits = once-empty _ (at-empty 2 _ (e2 .1));
-        object = λ o h. places-none (badObject x) _ o (at-empty 3 _ (e3 .1)) h;
-        class = λ c h. places-none (badDumped x) _ c (at-empty 4 _ (e4 .1)) h;
-        copied = at-empty 5 _ (e5 .1);
-        span = λ o h. places-none (badSpan x) _ o (at-empty 6 _ (e6 .1)) h;
-      };
+      sound = none-sound x (e2 .0) (e2 .1) (e3 .1) (e4 .1) (e5 .1) (e6 .1);
       root = λ i h. places-none (badRoot (objectCount x) (x .roots)) _ i (at-empty 7 _ (e7 .1)) h;
       few-places = once-empty _ (at-empty 8 _ (e8 .1));
     }

@@ -6,9 +6,10 @@ use native.Mathlib.Omega.{arith}
 use lib.ListN.{length, take}
 use lib.Seq.{take-length}
 use Rattle.columns.specs.Lists.{_!_}
-use Rattle.label_ranks.specs.Keys.{uses}
+use Rattle.label_ranks.specs.Keys.{tallyLabel, uses}
 use Rattle.labels.proofs.Table.{slot-within}
-use Rattle.label_ranks.proofs.Uses.{uses-more, zeros-few}
+use Rattle.label_ranks.proofs.Uses.{zeros-few}
+use Rattle.columns.proofs.Folds.{fold-more}
 use borrow.Author.Needs.{needs}
 use Rattle.label_ranks.proofs.count_uses.Statement.{statement}
 use Rattle.label_ranks.proofs.count_uses.Tie as tie
@@ -53,7 +54,7 @@ loop-again c =
     let a = c .before .before .before .before .before .before .before .args in
     let i = c .before .before .before .before .loop .i in
     let w = c .before .before .before .before .loop .inv in
-    (search needs, search needs, rw (uses-more (a .names) (a .counting .now) (a .labels .now) i (omega arith), ← w .2, ← c .before .slot-of .ensures))
+    (search needs, search needs, rw (fold-more (tallyLabel (a .names)) (a .counting .now) (a .labels .now) i (omega arith), ← w .2, ← c .before .slot-of .ensures))
 
 returns : tie.Need-returns Inv-loop μ-loop
 returns c =

@@ -5,8 +5,8 @@ use lib.ListN.{length, take}
 use lib.Seq.{take-length}
 use Rattle.columns.specs.Lists.{_!_}
 use Rattle.labels.proofs.Table.{slot-within}
-use Rattle.need_escapes.specs.Uncoded.{capped}
-use Rattle.need_escapes.proofs.Capped.{capped-more}
+use Rattle.need_escapes.specs.Uncoded.{cap, capped}
+use Rattle.columns.proofs.Folds.{fold-more}
 use native.Mathlib.Omega.{arith}
 use borrow.Author.Needs.{needs}
 use Rattle.need_escapes.proofs.count_capped.Statement.{statement}
@@ -44,7 +44,7 @@ loop-again c =
     let a = c .before .before .before .before .before .before .before .before .args in
     let i = c .before .before .before .before .before .loop .i in
     let w = c .before .before .before .before .before .loop .inv in
-    (search needs, search needs, rw (capped-more (a .names) (a .table .now) (a .labels .now) i (omega arith), ← w .2, ← c .before .before .slot-of .ensures, ← c .one-more .ensures))
+    (search needs, search needs, rw (fold-more (cap (a .names)) (a .table .now) (a .labels .now) i (omega arith), ← w .2, ← c .before .before .slot-of .ensures, ← c .one-more .ensures))
 
 same-length : tie.Need-same-length Inv-loop μ-loop
 same-length c = c .before .loop .inv .1
