@@ -37,7 +37,7 @@ TABLES = {
     "codingRoom": "bases short long_at long_value fields table escape_at escape_label edge_codes counting ranking",
 }
 CALL = re.compile(r"(?<![.\w:])([a-z_][\w:]*)\(")
-PART = re.compile(r"&(mut )?\w+\[")  # an argument that is a part of a slice
+PART = re.compile(r"&(mut )?(\w+)\[")  # an argument that is a part of a slice
 
 
 def split(text):
@@ -64,7 +64,8 @@ def closed(text, at):
 
 
 def find(crate, name, within=""):
-    """A function's parameters, as pairs of name and type, its body, its module, and the crates of the names that its file uses."""
+    """A function's parameters, as pairs of name and type, its body, its module, and the crates of the names that its file uses; of a function
+    that the crate passes on (`pub use`), those of its home."""
     for folder, _, files in sorted(os.walk(f"crates/{crate}/src")):
         for file in sorted((f for f in files if f.endswith(".rt")), key=lambda f: (f != within + ".rt", f)):
             text = re.sub(r"//[^\n]*", "", open(os.path.join(folder, file), encoding="utf-8").read())
@@ -75,6 +76,9 @@ def find(crate, name, within=""):
                 module = os.path.relpath(os.path.join(folder, file), f"crates/{crate}/src")[:-3]
                 uses = {u.split("::")[-1]: u.split("::")[0] for u in re.findall(r"^use ([\w:]+);", text, re.M)}
                 return [tuple(x.strip() for x in p.split(":", 1)) for p in split(inside)], closed(text, body.start())[0], module, uses
+            passed_on = re.search(r"^pub use (\w+)::%s;" % name, text, re.M)
+            if passed_on:
+                return find(passed_on.group(1), name)
     raise SystemExit(f"widen: there is no function {name} in crates/{crate}/src")
 
 
@@ -194,15 +198,23 @@ def paths(places, at, names, answers):
     return out + [f"abbrev start : tie.{places[end]} → tie.Start", f"start c = {path}", ""]
 
 
-def listed(calls, answers):
-    """The answers that the calls ask for, in order: those by hand by their names, the others by search."""
-    given, asks, out = re.findall(r"^([\w-]+) : tie\.Need-", answers, re.M), {}, []
+def listed(params, calls, answers):
+    """The answers that the calls ask for, in order: those by hand by their names, the others by search. A part of a slice asks for its length,
+    and one of a `&mut` that is only read asks before that whether it is within."""
+    given, asks, out, types = re.findall(r"^([\w-]+) : tie\.Need-", answers, re.M), {}, [], dict(params)
+
+    def ask(need, how):
+        asks[need] = asks.get(need, 0) + 1
+        need += f"-{asks[need]}" if asks[need] > 1 else ""
+        out.append(need if need in given else how)
+
     for k, args, _ in calls:
-        asks[k] = asks.get(k, 0) + 1
-        parts = sum(bool(PART.match(a)) for a in args)
-        asked = [(f"slice-aggregate-{k}" + (f"-{i + 1}" if i else ""), "(λ c. search needs)") for i in range(parts)]
-        asked.append((f"{k}-requires" + (f"-{asks[k]}" if asks[k] > 1 else ""), "(λ c κs. search needs)"))
-        out += [need if need in given else how for need, how in asked]
+        for lent in (PART.match(a) for a in args):
+            if lent and not lent.group(1) and is_mut_slice(types.get(lent.group(2), "")):
+                ask(f"slice-reshare-prefix-{k}", "(λ c. search needs)")
+            if lent:
+                ask(f"slice-aggregate-{k}", "(λ c. search needs)")
+        ask(f"{k}-requires", "(λ c κs. search needs)")
     return out
 
 
@@ -228,7 +240,7 @@ def proof(crate, name):
         out += [f"-- {column}", f"{need} : tie.Need-{need}", f"{need} c =\n    {how}" if "\n" in how else f"{need} c = {how}", ""]
     spec = name.replace("_", "-") + "-spec"
     out += [answers, "", f"pub {spec} : {{M : Type 1}} → statement M", f"{spec} =", "    tie.close", "    (tie.spec"]
-    out += ["    " + n for n in listed(calls, answers) + [need for need, _, _ in kept] + ["returns)"]]
+    out += ["    " + n for n in listed(params, calls, answers) + [need for need, _, _ in kept] + ["returns)"]]
     return f"crates/{crate}/proofs/{'/'.join(folder)}/Proof.antt", "\n".join(out) + "\n"
 
 

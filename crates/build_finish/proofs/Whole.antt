@@ -8,8 +8,6 @@ use mathlib.Core.List.{List, []}
 use lib.ListN.{length, take, length-map}
 use Rattle.columns.specs.Columns.{accepts}
 use Rattle.columns.proofs.Lists.{tab-length}
-use Rattle.rules.specs.declared.Built.{Built}
-use Rattle.rules.specs.Types.{builtSays}
 use Rattle.rules.specs.Input.{Input, Schema, objectCount, classCount}
 use Rattle.rules.specs.Edges.{Parts, graph, offset, edges}
 use Rattle.rules.specs.Needs.{Lent, Rooms, shortOfParts}
@@ -25,8 +23,7 @@ use Rattle.code_columns.proofs.Readying.{ready-parts}
 use Rattle.code_columns.specs.Finished.{PartsCoding, Hands, Finished, namingOf}
 use Rattle.build_rooms.specs.Stages.{kept, halfSays, early, leftOf, roomsOf, Laid}
 use Rattle.build_rooms.proofs.Compose.{built-left, edge-accepts, edge-passed}
-use Rattle.build_edges.specs.Laying.{Laying}
-use Rattle.build.specs.Build.{offsetsUsed, labelsUsed, Rest}
+use Rattle.build_finish.specs.Rest.{offsetsUsed, labelsUsed, Rest}
 
 offsets-count : (x : Input) → length (graph x .offsets) ≡ objectCount x + 1
 unfolding graph
@@ -48,33 +45,31 @@ abbrev anyParts : List ℕ → List ℕ → Parts
 anyParts offsets labels = record { offsets = offsets; labels = labels; targets = []; weakFrom = []; weakTo = []; roots = []; dangling = 0 }
 
 module _
-    (x : Input) (l : Lent) (ts₀ ls₀ fs₀ ws₀ rs₀ wk₀ : List ℕ) {v : Built} {ts₁ ls₁ fs₁ ws₁ rs₁ wk₁ : List ℕ} {a₁ : List (List ℕ)}
-    (half : Laying x (l .bases) (l .short) v ts₀ ls₀ fs₀ ws₀ rs₀ wk₀ ts₁ ls₁ fs₁ ws₁ rs₁ wk₁ a₁)
+    (x : Input) (l : Lent) (ts₀ ls₀ fs₀ ws₀ rs₀ wk₀ : List ℕ) {before ts₁ ls₁ fs₁ ws₁ rs₁ wk₁ : List ℕ} {a₁ : List (List ℕ)}
+    (answer : before ≡ halfSays x (early (length ts₀) (length ls₀) (length fs₀) (length ws₀) (length rs₀) (l .bases) (l .short) (length wk₀)))
+    (laid : Laid x before ts₀ fs₀ ws₀ rs₀ ts₁ ls₁ fs₁ ws₁ rs₁ wk₁ a₁)
   where
     abbrev s : Schema
     s = x .schema
 
-    abbrev before : List ℕ
-    before = builtSays v
-
     -- where the first half accepts, its answer and the work columns are those of the graph
     told : accepts before ≡ true → before ≡ plainCounts (graph x)
-    told ok = half .answer ∙ edge-accepts x (early (length ts₀) (length ls₀) (length fs₀) (length ws₀) (length rs₀) (l .bases) (l .short) (length wk₀)) (ap accepts (sym (half .answer)) ∙ ok)
+    told ok = answer ∙ edge-accepts x (early (length ts₀) (length ls₀) (length fs₀) (length ws₀) (length rs₀) (l .bases) (l .short) (length wk₀)) (ap accepts (sym answer) ∙ ok)
 
     edges-told : accepts before ≡ true → kept 1 before ≡ length (graph x .targets)
     unfolding kept
     edges-told ok = rw (ok, told ok)
 
     pub offsets-are : accepts before ≡ true → offsetsUsed (objectCount x) wk₁ ≡ graph x .offsets
-    offsets-are ok = ap (λ (n : ℕ). take n wk₁) (sym (offsets-count x)) ∙ half .laid .offsets ok
+    offsets-are ok = ap (λ (n : ℕ). take n wk₁) (sym (offsets-count x)) ∙ laid .offsets ok
 
     pub labels-are : length (graph x .targets) ≡ length (graph x .labels) → accepts before ≡ true → labelsUsed before ls₁ ≡ graph x .labels
-    labels-are even ok = ap (λ (n : ℕ). take n ls₁) (edges-told ok ∙ even) ∙ half .laid .labels ok
+    labels-are even ok = ap (λ (n : ℕ). take n ls₁) (edges-told ok ∙ even) ∙ laid .labels ok
 
     pub asked : accepts before ≡ true → Ready (namingOf s) (classCount s) (s .names) (offsetsUsed (objectCount x) wk₁) (labelsUsed before ls₁)
     asked ok =
         rw (offsets-are ok, labels-are (labels-even x) ok)
-        (graph-ready x (edge-passed x (early (length ts₀) (length ls₀) (length fs₀) (length ws₀) (length rs₀) (l .bases) (l .short) (length wk₀)) (ap accepts (sym (half .answer)) ∙ ok)))
+        (graph-ready x (edge-passed x (early (length ts₀) (length ls₀) (length fs₀) (length ws₀) (length rs₀) (l .bases) (l .short) (length wk₀)) (ap accepts (sym answer) ∙ ok)))
 
     module _ {says ts ls fs ws rs wk : List ℕ} {a : List (List ℕ)} {d : CodedLeft} (rest : Rest (namingOf s) (classCount s) (s .names) (objectCount x) before ts₁ ls₁ fs₁ ws₁ rs₁ wk₁ a₁ l says ts ls fs ws rs wk a d) where
       abbrev offsets : List ℕ
@@ -117,4 +112,4 @@ module _
 
       pub whole : length ts₁ ≡ length ts₀ → length ls₁ ≡ length ls₀ → length fs₁ ≡ length fs₀ → length ws₁ ≡ length ws₀ → length rs₁ ≡ length rs₀ → length wk₁ ≡ length wk₀
           → leftOf says ts ls fs ws rs wk d a ≡ buildLeft x (roomsOf (length ts₀) (length ls₀) (length fs₀) (length ws₀) (length rs₀) (length wk₀) l)
-      whole tn ln fn wn rn kn = built-left x l ls₀ wk₀ (half .laid) (rest .settled) (half .answer) then-said coded-said tn ln fn wn rn kn
+      whole tn ln fn wn rn kn = built-left x l ls₀ wk₀ laid (rest .settled) answer then-said coded-said tn ln fn wn rn kn

@@ -1,8 +1,8 @@
--- `build::up_to` meets its contract. Assumes nothing.
+-- `build_finish::up_to` meets its contract. Assumes nothing.
 use native.Mathlib.Omega.{arith}
 use borrow.Author.Needs.{needs}
-use Rattle.build.proofs.up_to.Statement.{statement}
-use Rattle.build.proofs.up_to.Tie as tie
+use Rattle.build_finish.proofs.up_to.Statement.{statement}
+use Rattle.build_finish.proofs.up_to.Tie as tie
 
 returns : tie.Need-returns
 returns c = (omega arith, omega arith)
