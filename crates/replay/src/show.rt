@@ -2,40 +2,31 @@
 use crate::answers;
 use crate::case::Numbers;
 use case_text::column;
-use rules::Built;
 use rules::Counts;
-use rules::Refusal;
-
-fn refusal(number: u64, place: usize) {
-    print::word(b"  refused: ");
-    print::number(number);
-    print::line(b" at ", place as u64);
-}
 
 // Document 01's numbers.
-fn refused(r: Refusal) {
-    match r {
-        Refusal::Lengths => refusal(1, 0),
-        Refusal::Limit => refusal(2, 0),
-        Refusal::Object(o) => refusal(3, o),
-        Refusal::Class(c) => refusal(4, c),
-        Refusal::Copied(p) => refusal(5, p),
-        Refusal::Span(o) => refusal(6, o),
-        Refusal::Root(i) => refusal(7, i),
-        Refusal::Places => refusal(8, 0),
-        Refusal::Room(k) => refusal(9, k),
-        Refusal::Parts {
-            column,
-            position: _,
-        } => refusal(10, column),
-        Refusal::Index(i) => refusal(11, i),
-        Refusal::Columns(o) => refusal(12, o),
-    }
+fn refused(number: u64, place: u64) {
+    print::word(b"  refused: ");
+    print::number(number);
+    print::line(b" at ", place);
 }
 
 fn amount(name: &[u8], n: u64) {
     print::word(name);
     print::number(n);
+}
+
+// What a build that is done says.
+fn counts_of(says: [u64; 9]) -> Counts {
+    Counts {
+        edges: says[2] as usize,
+        weak: says[3] as usize,
+        roots: says[4] as usize,
+        long: says[5] as usize,
+        fields: says[6] as usize,
+        escapes: says[7] as usize,
+        dangling: says[8],
+    }
 }
 
 fn counts(c: Counts) {
@@ -298,7 +289,7 @@ fn done<'a>(
 }
 
 pub(crate) fn outcome<'a>(
-    b: Built,
+    says: [u64; 9],
     halves: &'a [u32],
     cuts: &'a [usize],
     n: Numbers,
@@ -321,9 +312,9 @@ pub(crate) fn outcome<'a>(
     counting: &[u64],
     ranking: &[u64],
 ) {
-    match b {
-        Built::Done(c) => done(
-            c,
+    if says[1] == 0 {
+        done(
+            counts_of(says),
             halves,
             cuts,
             n,
@@ -345,14 +336,13 @@ pub(crate) fn outcome<'a>(
             codes,
             counting,
             ranking,
-        ),
-        Built::Refused(r) => {
-            refused(r);
-            left(
-                zero_edges(targets, labels, weak_from, weak_to, roots, working, account),
-                zero_offsets(bases, short, long_at, long_value, fields, table),
-                zero_codes(escape_at, escape_label, codes, counting, ranking),
-            );
-        }
+        );
+        return;
     }
+    refused(says[1], says[2]);
+    left(
+        zero_edges(targets, labels, weak_from, weak_to, roots, working, account),
+        zero_offsets(bases, short, long_at, long_value, fields, table),
+        zero_codes(escape_at, escape_label, codes, counting, ranking),
+    );
 }
