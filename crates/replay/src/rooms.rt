@@ -1,16 +1,14 @@
 // The columns that a case is built in: fixed arrays full of nines, of which the case's rooms are lent.
-use crate::case;
-use crate::case::Numbers;
 use crate::routes;
+use case_graph::case;
+use case_graph::case::BLOCKS;
+use case_graph::case::Numbers;
+use case_graph::case::ROWS;
 use case_text::arrays;
 use case_text::arrays::EDGES;
 use case_text::arrays::NAMED;
 use case_text::arrays::room;
 use case_text::column;
-
-pub(crate) const ROWS: usize = 4000;
-
-pub(crate) const BLOCKS: usize = 1000;
 
 // The columns of a case, each with the room that the case names.
 fn lend<'a>(bytes: &'a [u8], halves: &'a [u32], words: &'a [u64], cuts: &'a [usize], n: Numbers) {

@@ -1,12 +1,7 @@
 -- `replay::rooms::lend` is safe and ends. Each room is within its array. Assumes nothing.
-use Prim.Native.Nat.{ℕ, _≤_}
-use mathlib.Core.Path.{_≡_, subst}
-use Rattle.case_text.proofs.Taken.{front, taken}
+use Rattle.case_text.proofs.Taken.{front, taken, within}
 use Rattle.replay.proofs.rooms.lend.Statement.{statement}
 use Rattle.replay.proofs.rooms.lend.Tie as tie
-
-within : {r n m : ℕ} → n ≡ m → r ≤ n → r ≤ m
-within {r} e h = subst (λ (k : ℕ). r ≤ k) e h
 
 array-borrow-prefix-targets : tie.Need-array-borrow-prefix-targets
 array-borrow-prefix-targets c = within (c .before .before .before .before .before .before .edges-u32 .ensures)
