@@ -150,3 +150,57 @@ pub fn of_u64(name: &[u8], xs: &[u64]) {
     }
     print::word(b"\n");
 }
+
+// The columns of the offsets and of the fields, each whole, with what is behind its used part.
+pub fn offset_columns(
+    bases: &[u64],
+    short: &[u16],
+    long_at: &[u32],
+    long_value: &[u64],
+    fields: &[u32],
+    table: &[u16],
+) {
+    of_u64(b"  bases", bases);
+    of_u16(b"  short", short);
+    of_u32(b"  long_at", long_at);
+    of_u64(b"  long_value", long_value);
+    of_u32(b"  fields", fields);
+    of_u16(b"  table", table);
+}
+
+// The columns of the codes.
+pub fn code_columns(
+    escape_at: &[u64],
+    escape_label: &[u32],
+    codes: &[u16],
+    counting: &[u64],
+    ranking: &[u64],
+) {
+    of_u64(b"  escape_at", escape_at);
+    of_u32(b"  escape_label", escape_label);
+    of_u16(b"  codes", codes);
+    of_u64(b"  counting", counting);
+    of_u64(b"  ranking", ranking);
+}
+
+// The used part of a column; all of it where it is shorter.
+pub fn used_u16<'a>(xs: &'a [u16], n: usize) -> &'a [u16] {
+    if xs.len() < n {
+        return xs;
+    }
+    &xs[0..n]
+}
+
+pub fn used_u32<'a>(xs: &'a [u32], n: usize) -> &'a [u32] {
+    if xs.len() < n {
+        return xs;
+    }
+    &xs[0..n]
+}
+
+pub fn used_u64<'a>(xs: &'a [u64], n: usize) -> &'a [u64] {
+    if xs.len() < n {
+        return xs;
+    }
+    &xs[0..n]
+}

@@ -1,4 +1,5 @@
 // What can be wrong with the text, and how it is told.
+use crate::form;
 
 pub enum Fault {
     NoListYet,
@@ -14,20 +15,38 @@ pub enum Fault {
     TextTooLong,
 }
 
-fn why(f: Fault) {
+fn line(f: Fault) -> usize {
     match f {
-        Fault::NoListYet => print::word(b"a list is missing before this place\n"),
-        Fault::ListTooMany => print::word(b"a list more than a case has\n"),
-        Fault::ListNotClosed => print::word(b"the list is not closed\n"),
-        Fault::TitleNotClosed => print::word(b"the title is not closed\n"),
-        Fault::NoNumber => print::word(b"no number, or one over 64 bits\n"),
-        Fault::NumberTooLarge => print::word(b"a number that does not fit its column\n"),
-        Fault::TooManyNumbers => print::word(b"more numbers than there is room for\n"),
-        Fault::WrongNumbers => print::word(b"the six numbers of the case\n"),
-        Fault::WrongRooms => print::word(b"the rooms of the case, in sets of seventeen\n"),
-        Fault::OddQuestions => print::word(b"a question is not a pair\n"),
-        Fault::TextTooLong => print::word(b"the text is too long\n"),
+        Fault::NoListYet => 0,
+        Fault::ListTooMany => 1,
+        Fault::ListNotClosed => 2,
+        Fault::TitleNotClosed => 3,
+        Fault::NoNumber => 4,
+        Fault::NumberTooLarge => 5,
+        Fault::TooManyNumbers => 6,
+        Fault::WrongNumbers => 7,
+        Fault::WrongRooms => 8,
+        Fault::OddQuestions => 9,
+        Fault::TextTooLong => 10,
     }
+}
+
+// The lines are in the order of the faults.
+fn why(f: Fault) {
+    let lines = b"a list is missing before this place
+a list more than a case has
+the list is not closed
+the title is not closed
+no number, or one over 64 bits
+a number that does not fit its column
+more numbers than there is room for
+the six numbers of the case
+the rooms of the case, in sets of seventeen
+a question is not a pair
+the text is too long
+";
+    print::word(form::line(lines, line(f)));
+    print::word(b"\n");
 }
 
 pub fn tell(f: Fault, at: usize) {

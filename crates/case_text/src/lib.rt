@@ -3,5 +3,6 @@
 pub mod arrays;
 pub mod column;
 pub mod fault;
+pub mod form;
 pub mod lists;
 pub mod text;

@@ -5,15 +5,12 @@
 // and words outside brackets are remarks. The columns hold nines before a build. Of a build that is done every column is written whole, with what is behind the
 // used part, then each object's span, edges and weak targets, and the answers; of a refusal its number and place, and whether all that was lent is zero.
 // A text that is malformed is told with the place, and nothing more is built.
-mod answers;
-mod case;
-mod edges;
-mod lists;
 mod rooms;
 mod routes;
-mod show;
 
-use crate::case::Sound;
+use case_graph::case;
+use case_graph::case::Sound;
+use case_graph::lists;
 use case_text::arrays;
 use case_text::fault;
 use case_text::fault::Fault;

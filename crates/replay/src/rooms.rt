@@ -1,127 +1,16 @@
-// The columns that a case is built in: fixed arrays full of nines, of which the case's rooms are lent. They are made in three steps, so that no function has them all.
-use crate::case;
-use crate::case::Numbers;
+// The columns that a case is built in: fixed arrays full of nines, of which the case's rooms are lent.
 use crate::routes;
+use case_graph::case;
+use case_graph::case::BLOCKS;
+use case_graph::case::Numbers;
+use case_graph::case::ROWS;
 use case_text::arrays;
 use case_text::arrays::EDGES;
 use case_text::arrays::NAMED;
 use case_text::arrays::room;
 use case_text::column;
 
-pub(crate) const ROWS: usize = 4000;
-
-pub(crate) const BLOCKS: usize = 1000;
-
-// The columns of the codes, behind all others.
-fn of_codes<'a>(
-    bytes: &'a [u8],
-    halves: &'a [u32],
-    words: &'a [u64],
-    cuts: &'a [usize],
-    n: Numbers,
-    targets: &mut [u32],
-    labels: &mut [u32],
-    weak_from: &mut [u32],
-    weak_to: &mut [u32],
-    roots: &mut [u32],
-    working: &mut [u64],
-    account: &mut [[u64; 3]; 4],
-    bases: &mut [u64],
-    short: &mut [u16],
-    long_at: &mut [u32],
-    long_value: &mut [u64],
-    fields: &mut [u32],
-    table: &mut [u16],
-) {
-    let rooms = case::rooms_of(words, cuts, n.set);
-    let escape_at_room = room(rooms, 12, ROWS);
-    let escape_label_room = room(rooms, 13, ROWS);
-    let codes_room = room(rooms, 14, EDGES);
-    let counting_room = room(rooms, 15, NAMED);
-    let ranking_room = room(rooms, 16, NAMED);
-    let mut escape_at: [u64; ROWS] = [9; ROWS];
-    let mut escape_label: [u32; ROWS] = [9; ROWS];
-    let mut codes = arrays::edges_u16();
-    let mut counting = arrays::named_u64();
-    let mut ranking = arrays::named_u64();
-    routes::run(
-        bytes,
-        halves,
-        words,
-        cuts,
-        n,
-        targets,
-        labels,
-        weak_from,
-        weak_to,
-        roots,
-        working,
-        account,
-        bases,
-        short,
-        long_at,
-        long_value,
-        fields,
-        table,
-        &mut escape_at[..escape_at_room],
-        &mut escape_label[..escape_label_room],
-        &mut codes[..codes_room],
-        &mut counting[..counting_room],
-        &mut ranking[..ranking_room],
-    );
-}
-
-// The columns of the offsets and of the fields, behind those of the edges.
-fn of_offsets<'a>(
-    bytes: &'a [u8],
-    halves: &'a [u32],
-    words: &'a [u64],
-    cuts: &'a [usize],
-    n: Numbers,
-    targets: &mut [u32],
-    labels: &mut [u32],
-    weak_from: &mut [u32],
-    weak_to: &mut [u32],
-    roots: &mut [u32],
-    working: &mut [u64],
-    account: &mut [[u64; 3]; 4],
-) {
-    let rooms = case::rooms_of(words, cuts, n.set);
-    let bases_room = room(rooms, 6, BLOCKS);
-    let short_room = room(rooms, 7, ROWS);
-    let long_at_room = room(rooms, 8, ROWS);
-    let long_value_room = room(rooms, 9, ROWS);
-    let fields_room = room(rooms, 10, NAMED);
-    let table_room = room(rooms, 11, NAMED);
-    let mut bases: [u64; BLOCKS] = [9; BLOCKS];
-    let mut short: [u16; ROWS] = [9; ROWS];
-    let mut long_at: [u32; ROWS] = [9; ROWS];
-    let mut long_value: [u64; ROWS] = [9; ROWS];
-    let mut fields = arrays::named_u32();
-    let mut table = arrays::named_u16();
-    of_codes(
-        bytes,
-        halves,
-        words,
-        cuts,
-        n,
-        targets,
-        labels,
-        weak_from,
-        weak_to,
-        roots,
-        working,
-        account,
-        &mut bases[..bases_room],
-        &mut short[..short_room],
-        &mut long_at[..long_at_room],
-        &mut long_value[..long_value_room],
-        &mut fields[..fields_room],
-        &mut table[..table_room],
-    );
-}
-
-// The columns of the edges.
+// The columns of a case, each with the room that the case names.
 fn lend<'a>(bytes: &'a [u8], halves: &'a [u32], words: &'a [u64], cuts: &'a [usize], n: Numbers) {
     let rooms = case::rooms_of(words, cuts, n.set);
     let targets_room = room(rooms, 0, EDGES);
@@ -130,6 +19,17 @@ fn lend<'a>(bytes: &'a [u8], halves: &'a [u32], words: &'a [u64], cuts: &'a [usi
     let weak_to_room = room(rooms, 3, ROWS);
     let roots_room = room(rooms, 4, ROWS);
     let working_room = room(rooms, 5, ROWS);
+    let bases_room = room(rooms, 6, BLOCKS);
+    let short_room = room(rooms, 7, ROWS);
+    let long_at_room = room(rooms, 8, ROWS);
+    let long_value_room = room(rooms, 9, ROWS);
+    let fields_room = room(rooms, 10, NAMED);
+    let table_room = room(rooms, 11, NAMED);
+    let escape_at_room = room(rooms, 12, ROWS);
+    let escape_label_room = room(rooms, 13, ROWS);
+    let codes_room = room(rooms, 14, EDGES);
+    let counting_room = room(rooms, 15, NAMED);
+    let ranking_room = room(rooms, 16, NAMED);
     let mut targets = arrays::edges_u32();
     let mut labels = arrays::edges_u32();
     let mut weak_from: [u32; ROWS] = [9; ROWS];
@@ -137,7 +37,18 @@ fn lend<'a>(bytes: &'a [u8], halves: &'a [u32], words: &'a [u64], cuts: &'a [usi
     let mut roots: [u32; ROWS] = [9; ROWS];
     let mut working: [u64; ROWS] = [9; ROWS];
     let mut account: [[u64; 3]; 4] = [[9; 3]; 4];
-    of_offsets(
+    let mut bases: [u64; BLOCKS] = [9; BLOCKS];
+    let mut short: [u16; ROWS] = [9; ROWS];
+    let mut long_at: [u32; ROWS] = [9; ROWS];
+    let mut long_value: [u64; ROWS] = [9; ROWS];
+    let mut fields = arrays::named_u32();
+    let mut table = arrays::named_u16();
+    let mut escape_at: [u64; ROWS] = [9; ROWS];
+    let mut escape_label: [u32; ROWS] = [9; ROWS];
+    let mut codes = arrays::edges_u16();
+    let mut counting = arrays::named_u64();
+    let mut ranking = arrays::named_u64();
+    routes::run(
         bytes,
         halves,
         words,
@@ -150,6 +61,17 @@ fn lend<'a>(bytes: &'a [u8], halves: &'a [u32], words: &'a [u64], cuts: &'a [usi
         &mut roots[..roots_room],
         &mut working[..working_room],
         &mut account,
+        &mut bases[..bases_room],
+        &mut short[..short_room],
+        &mut long_at[..long_at_room],
+        &mut long_value[..long_value_room],
+        &mut fields[..fields_room],
+        &mut table[..table_room],
+        &mut escape_at[..escape_at_room],
+        &mut escape_label[..escape_label_room],
+        &mut codes[..codes_room],
+        &mut counting[..counting_room],
+        &mut ranking[..ranking_room],
     );
 }
 

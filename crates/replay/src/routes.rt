@@ -1,39 +1,42 @@
 // The two builds, asked with the lists of a case, and what is written of the outcome.
-use crate::case::Numbers;
-use crate::case::policy_of;
-use crate::lists;
-use crate::show;
+//
+// The columns are lent for good: a function here answers one of them at the lifetime of all. So nothing has to be proved of how the others come back, which
+// would cost more than the calls themselves. What a build says goes into lent numbers, those of document 01 behind their count.
+use case_graph::case::Numbers;
+use case_graph::case::policy_of;
+use case_graph::lists;
+use case_graph::show;
 use case_text::lists::of_u8;
 use case_text::lists::of_u32;
 use case_text::lists::of_u64;
-use rules::Built;
 
-fn copied<'a>(
+fn copied<'a, 'b>(
     bytes: &'a [u8],
     halves: &'a [u32],
     words: &'a [u64],
     cuts: &'a [usize],
     n: Numbers,
-    targets: &mut [u32],
-    labels: &mut [u32],
-    weak_from: &mut [u32],
-    weak_to: &mut [u32],
-    roots: &mut [u32],
-    working: &mut [u64],
-    account: &mut [[u64; 3]; 4],
-    bases: &mut [u64],
-    short: &mut [u16],
-    long_at: &mut [u32],
-    long_value: &mut [u64],
-    fields: &mut [u32],
-    table: &mut [u16],
-    escape_at: &mut [u64],
-    escape_label: &mut [u32],
-    codes: &mut [u16],
-    counting: &mut [u64],
-    ranking: &mut [u64],
-) -> Built {
-    build::build_copied(
+    says: &mut [u64; 9],
+    targets: &'b mut [u32],
+    labels: &'b mut [u32],
+    weak_from: &'b mut [u32],
+    weak_to: &'b mut [u32],
+    roots: &'b mut [u32],
+    working: &'b mut [u64],
+    account: &'b mut [[u64; 3]; 4],
+    bases: &'b mut [u64],
+    short: &'b mut [u16],
+    long_at: &'b mut [u32],
+    long_value: &'b mut [u64],
+    fields: &'b mut [u32],
+    table: &'b mut [u16],
+    escape_at: &'b mut [u64],
+    escape_label: &'b mut [u32],
+    codes: &'b mut [u16],
+    counting: &'b mut [u64],
+    ranking: &'b mut [u64],
+) -> &'b [u32] {
+    let b = build::build_copied(
         of_u64(words, cuts, lists::IDS),
         of_u8(bytes, cuts, lists::KINDS),
         of_u32(halves, cuts, lists::CLASSES),
@@ -78,35 +81,38 @@ fn copied<'a>(
         codes,
         counting,
         ranking,
-    )
+    );
+    *says = answer_numbers::built(b);
+    targets
 }
 
-fn raw<'a>(
+fn raw<'a, 'b>(
     bytes: &'a [u8],
     halves: &'a [u32],
     words: &'a [u64],
     cuts: &'a [usize],
     n: Numbers,
-    targets: &mut [u32],
-    labels: &mut [u32],
-    weak_from: &mut [u32],
-    weak_to: &mut [u32],
-    roots: &mut [u32],
-    working: &mut [u64],
-    account: &mut [[u64; 3]; 4],
-    bases: &mut [u64],
-    short: &mut [u16],
-    long_at: &mut [u32],
-    long_value: &mut [u64],
-    fields: &mut [u32],
-    table: &mut [u16],
-    escape_at: &mut [u64],
-    escape_label: &mut [u32],
-    codes: &mut [u16],
-    counting: &mut [u64],
-    ranking: &mut [u64],
-) -> Built {
-    build::build_raw(
+    says: &mut [u64; 9],
+    targets: &'b mut [u32],
+    labels: &'b mut [u32],
+    weak_from: &'b mut [u32],
+    weak_to: &'b mut [u32],
+    roots: &'b mut [u32],
+    working: &'b mut [u64],
+    account: &'b mut [[u64; 3]; 4],
+    bases: &'b mut [u64],
+    short: &'b mut [u16],
+    long_at: &'b mut [u32],
+    long_value: &'b mut [u64],
+    fields: &'b mut [u32],
+    table: &'b mut [u16],
+    escape_at: &'b mut [u64],
+    escape_label: &'b mut [u32],
+    codes: &'b mut [u16],
+    counting: &'b mut [u64],
+    ranking: &'b mut [u64],
+) -> &'b [u32] {
+    let b = build::build_raw(
         of_u64(words, cuts, lists::IDS),
         of_u8(bytes, cuts, lists::KINDS),
         of_u32(halves, cuts, lists::CLASSES),
@@ -150,35 +156,38 @@ fn raw<'a>(
         codes,
         counting,
         ranking,
-    )
+    );
+    *says = answer_numbers::built(b);
+    targets
 }
 
 // The build by the route that the case names.
-fn by_route<'a>(
+fn by_route<'a, 'b>(
     bytes: &'a [u8],
     halves: &'a [u32],
     words: &'a [u64],
     cuts: &'a [usize],
     n: Numbers,
-    targets: &mut [u32],
-    labels: &mut [u32],
-    weak_from: &mut [u32],
-    weak_to: &mut [u32],
-    roots: &mut [u32],
-    working: &mut [u64],
-    account: &mut [[u64; 3]; 4],
-    bases: &mut [u64],
-    short: &mut [u16],
-    long_at: &mut [u32],
-    long_value: &mut [u64],
-    fields: &mut [u32],
-    table: &mut [u16],
-    escape_at: &mut [u64],
-    escape_label: &mut [u32],
-    codes: &mut [u16],
-    counting: &mut [u64],
-    ranking: &mut [u64],
-) -> Built {
+    says: &mut [u64; 9],
+    targets: &'b mut [u32],
+    labels: &'b mut [u32],
+    weak_from: &'b mut [u32],
+    weak_to: &'b mut [u32],
+    roots: &'b mut [u32],
+    working: &'b mut [u64],
+    account: &'b mut [[u64; 3]; 4],
+    bases: &'b mut [u64],
+    short: &'b mut [u16],
+    long_at: &'b mut [u32],
+    long_value: &'b mut [u64],
+    fields: &'b mut [u32],
+    table: &'b mut [u16],
+    escape_at: &'b mut [u64],
+    escape_label: &'b mut [u32],
+    codes: &'b mut [u16],
+    counting: &'b mut [u64],
+    ranking: &'b mut [u64],
+) -> &'b [u32] {
     if n.raw {
         return raw(
             bytes,
@@ -186,6 +195,7 @@ fn by_route<'a>(
             words,
             cuts,
             n,
+            says,
             targets,
             labels,
             weak_from,
@@ -212,6 +222,7 @@ fn by_route<'a>(
         words,
         cuts,
         n,
+        says,
         targets,
         labels,
         weak_from,
@@ -233,37 +244,39 @@ fn by_route<'a>(
     )
 }
 
-pub(crate) fn run<'a>(
+pub(crate) fn run<'a, 'b>(
     bytes: &'a [u8],
     halves: &'a [u32],
     words: &'a [u64],
     cuts: &'a [usize],
     n: Numbers,
-    targets: &mut [u32],
-    labels: &mut [u32],
-    weak_from: &mut [u32],
-    weak_to: &mut [u32],
-    roots: &mut [u32],
-    working: &mut [u64],
-    account: &mut [[u64; 3]; 4],
-    bases: &mut [u64],
-    short: &mut [u16],
-    long_at: &mut [u32],
-    long_value: &mut [u64],
-    fields: &mut [u32],
-    table: &mut [u16],
-    escape_at: &mut [u64],
-    escape_label: &mut [u32],
-    codes: &mut [u16],
-    counting: &mut [u64],
-    ranking: &mut [u64],
-) {
-    let b = by_route(
+    targets: &'b mut [u32],
+    labels: &'b mut [u32],
+    weak_from: &'b mut [u32],
+    weak_to: &'b mut [u32],
+    roots: &'b mut [u32],
+    working: &'b mut [u64],
+    account: &'b mut [[u64; 3]; 4],
+    bases: &'b mut [u64],
+    short: &'b mut [u16],
+    long_at: &'b mut [u32],
+    long_value: &'b mut [u64],
+    fields: &'b mut [u32],
+    table: &'b mut [u16],
+    escape_at: &'b mut [u64],
+    escape_label: &'b mut [u32],
+    codes: &'b mut [u16],
+    counting: &'b mut [u64],
+    ranking: &'b mut [u64],
+) -> &'b [u32] {
+    let mut says: [u64; 9] = [0; 9];
+    by_route(
         bytes,
         halves,
         words,
         cuts,
         n,
+        &mut says,
         targets,
         labels,
         weak_from,
@@ -284,7 +297,7 @@ pub(crate) fn run<'a>(
         ranking,
     );
     show::outcome(
-        b,
+        says,
         halves,
         cuts,
         n,
@@ -307,4 +320,5 @@ pub(crate) fn run<'a>(
         counting,
         ranking,
     );
+    targets
 }

@@ -1,63 +1,65 @@
 // What is written of an answer: document 01's name and number of the refusal, and its place.
+use case_text::form;
 use rules::Built;
 use rules::Checked;
-use rules::Counts;
-use rules::Refusal;
 
-fn place(name: &[u8], p: usize) {
-    print::word(name);
-    print::number(p as u64);
+// The lines are in the order of the refusals' numbers; where a refusal has a place, the mark is its place.
+fn refusal(says: [u64; 9]) {
+    let lines = b"
+LENGTHS, 1
+LIMIT, 2
+OBJECT, 3, at #
+CLASS, 4, at #
+COPIED, 5, at #
+SPAN, 6, at #
+ROOT, 7, at #
+PLACES, 8
+ROOM, 9, buffer #
+PARTS, 10, column #, position #
+INDEX, 11, at #
+COLUMNS, 12, at #
+";
+    form::fill(form::line(lines, says[1] as usize), &[says[2], says[3]]);
 }
 
-fn parts(column: usize, position: usize) {
-    place(b"PARTS, 10, column ", column);
-    place(b", position ", position);
-}
-
-fn refusal(r: Refusal) {
-    match r {
-        Refusal::Lengths => print::word(b"LENGTHS, 1"),
-        Refusal::Limit => print::word(b"LIMIT, 2"),
-        Refusal::Object(o) => place(b"OBJECT, 3, at ", o),
-        Refusal::Class(c) => place(b"CLASS, 4, at ", c),
-        Refusal::Copied(p) => place(b"COPIED, 5, at ", p),
-        Refusal::Span(o) => place(b"SPAN, 6, at ", o),
-        Refusal::Root(i) => place(b"ROOT, 7, at ", i),
-        Refusal::Places => print::word(b"PLACES, 8"),
-        Refusal::Room(k) => place(b"ROOM, 9, buffer ", k),
-        Refusal::Parts { column, position } => parts(column, position),
-        Refusal::Index(i) => place(b"INDEX, 11, at ", i),
-        Refusal::Columns(o) => place(b"COLUMNS, 12, at ", o),
-    }
+fn accepted(n: usize) {
+    form::fill(b"accepted with #", &[n as u64]);
 }
 
 pub(crate) fn checked(call: &[u8], c: Checked) {
     print::word(call);
     match c {
-        Checked::Accepted(n) => place(b"accepted with ", n),
-        Checked::Refused(r) => refusal(r),
+        Checked::Accepted(n) => accepted(n),
+        Checked::Refused(r) => refusal(answer_numbers::built(Built::Refused(r))),
     }
 }
 
-fn counts(c: Counts) {
-    place(b"; done: edges ", c.edges);
-    place(b", weak ", c.weak);
-    place(b", roots ", c.roots);
-    place(b", long ", c.long);
-    place(b", fields ", c.fields);
-    place(b", escapes ", c.escapes);
-    print::line(b", dangling ", c.dangling);
+fn counts(says: [u64; 9]) {
+    form::fill(
+        b"; done: edges #, weak #, roots #, long #, fields #, escapes #, dangling #\n",
+        &[
+            says[2],
+            says[3],
+            says[4],
+            says[5],
+            says[6],
+            says[7],
+            says[8],
+        ],
+    );
 }
 
-fn refused(r: Refusal) {
+fn refused(says: [u64; 9]) {
     print::word(b"; refused: ");
-    refusal(r);
+    refusal(says);
     print::word(b"\n");
 }
 
-pub(crate) fn built(b: Built) {
-    match b {
-        Built::Done(c) => counts(c),
-        Built::Refused(r) => refused(r),
+// What a build says, as numbers.
+pub(crate) fn built(says: [u64; 9]) {
+    if says[1] == 0 {
+        counts(says);
+    } else {
+        refused(says);
     }
 }

@@ -1,9 +1,9 @@
 // The checks, asked with the lists of a case.
 use crate::answer;
-use crate::hand::used_u64;
 use crate::names;
 use case_text::arrays;
 use case_text::column;
+use case_text::column::used_u64;
 use case_text::lists::of_u8;
 use case_text::lists::of_u32;
 use case_text::lists::of_u64;

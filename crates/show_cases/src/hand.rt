@@ -1,4 +1,7 @@
 // The graph handed over by its plain columns, in lent columns of the rooms that the case names, and what is left in them.
+//
+// The columns are lent for good: a function here answers one of them at the lifetime of all, so that nothing has to be proved of how the others come back.
+// What the call says goes into lent numbers, those of document 01 behind their count.
 use crate::answer;
 use crate::checks::first;
 use crate::names;
@@ -7,32 +10,34 @@ use case_text::arrays::EDGES;
 use case_text::arrays::NAMED;
 use case_text::arrays::room;
 use case_text::column;
+use case_text::column::used_u32;
+use case_text::column::used_u64;
 use case_text::lists::of_u8;
 use case_text::lists::of_u32;
 use case_text::lists::of_u64;
 use labels::EdgeLabel;
-use rules::Built;
 
 const ROWS: usize = 8;
 
-fn hand<'a>(
+fn hand<'a, 'b>(
     bytes: &'a [u8],
     halves: &'a [u32],
     words: &'a [u64],
     cuts: &'a [usize],
-    bases: &mut [u64],
-    short: &mut [u16],
-    long_at: &mut [u32],
-    long_value: &mut [u64],
-    fields: &mut [u32],
-    table: &mut [u16],
-    escape_at: &mut [u64],
-    escape_label: &mut [u32],
-    codes: &mut [u16],
-    counting: &mut [u64],
-    ranking: &mut [u64],
-) -> Built {
-    from_parts::from_parts(
+    says: &mut [u64; 9],
+    bases: &'b mut [u64],
+    short: &'b mut [u16],
+    long_at: &'b mut [u32],
+    long_value: &'b mut [u64],
+    fields: &'b mut [u32],
+    table: &'b mut [u16],
+    escape_at: &'b mut [u64],
+    escape_label: &'b mut [u32],
+    codes: &'b mut [u16],
+    counting: &'b mut [u64],
+    ranking: &'b mut [u64],
+) -> &'b [u64] {
+    let b = from_parts::from_parts(
         of_u64(words, cuts, names::CLASS_IDS),
         of_u64(words, cuts, names::LOADERS),
         of_u8(bytes, cuts, names::DUMPED),
@@ -66,38 +71,9 @@ fn hand<'a>(
         codes,
         counting,
         ranking,
-    )
-}
-
-// The coded columns whole, with what is behind the used part.
-fn offset_columns(
-    bases: &[u64],
-    short: &[u16],
-    long_at: &[u32],
-    long_value: &[u64],
-    fields: &[u32],
-    table: &[u16],
-) {
-    column::of_u64(b"  bases", bases);
-    column::of_u16(b"  short", short);
-    column::of_u32(b"  long_at", long_at);
-    column::of_u64(b"  long_value", long_value);
-    column::of_u32(b"  fields", fields);
-    column::of_u16(b"  table", table);
-}
-
-fn code_columns(
-    escape_at: &[u64],
-    escape_label: &[u32],
-    codes: &[u16],
-    counting: &[u64],
-    ranking: &[u64],
-) {
-    column::of_u64(b"  escape_at", escape_at);
-    column::of_u32(b"  escape_label", escape_label);
-    column::of_u16(b"  codes", codes);
-    column::of_u64(b"  counting", counting);
-    column::of_u64(b"  ranking", ranking);
+    );
+    *says = answer_numbers::built(b);
+    bases
 }
 
 fn is(answer: EdgeLabel, label: u32) -> bool {
@@ -160,23 +136,9 @@ fn read_back(
     print::word(b"\n");
 }
 
-// The used part of a column; all of it where it is shorter.
-fn used_u32<'a>(xs: &'a [u32], n: usize) -> &'a [u32] {
-    if xs.len() < n {
-        return xs;
-    }
-    &xs[0..n]
-}
-
-pub(crate) fn used_u64<'a>(xs: &'a [u64], n: usize) -> &'a [u64] {
-    if xs.len() < n {
-        return xs;
-    }
-    &xs[0..n]
-}
-
+// After an acceptance.
 fn read<'a>(
-    b: Built,
+    says: [u64; 9],
     halves: &'a [u32],
     words: &'a [u64],
     cuts: &'a [usize],
@@ -185,38 +147,90 @@ fn read<'a>(
     escape_label: &[u32],
     codes: &[u16],
 ) {
-    match b {
-        Built::Done(c) => read_back(
-            of_u64(words, cuts, names::OFFSETS),
-            of_u32(halves, cuts, names::LABELS),
-            used_u32(fields, c.fields),
-            used_u64(escape_at, c.escapes),
-            used_u32(escape_label, c.escapes),
-            codes,
-        ),
-        Built::Refused(_) => {}
+    if says[1] != 0 {
+        return;
     }
+    read_back(
+        of_u64(words, cuts, names::OFFSETS),
+        of_u32(halves, cuts, names::LABELS),
+        used_u32(fields, says[6] as usize),
+        used_u64(escape_at, says[7] as usize),
+        used_u32(escape_label, says[7] as usize),
+        codes,
+    );
 }
 
-fn show<'a>(
+// What is left in the columns.
+fn left<'a>(
+    says: [u64; 9],
+    halves: &'a [u32],
+    words: &'a [u64],
+    cuts: &'a [usize],
+    bases: &[u64],
+    short: &[u16],
+    long_at: &[u32],
+    long_value: &[u64],
+    fields: &[u32],
+    table: &[u16],
+    escape_at: &[u64],
+    escape_label: &[u32],
+    codes: &[u16],
+    counting: &[u64],
+    ranking: &[u64],
+) {
+    answer::built(says);
+    column::offset_columns(bases, short, long_at, long_value, fields, table);
+    column::code_columns(escape_at, escape_label, codes, counting, ranking);
+    read(
+        says,
+        halves,
+        words,
+        cuts,
+        fields,
+        escape_at,
+        escape_label,
+        codes,
+    );
+}
+
+fn show<'a, 'b>(
     bytes: &'a [u8],
     halves: &'a [u32],
     words: &'a [u64],
     cuts: &'a [usize],
-    bases: &mut [u64],
-    short: &mut [u16],
-    long_at: &mut [u32],
-    long_value: &mut [u64],
-    fields: &mut [u32],
-    table: &mut [u16],
-    escape_at: &mut [u64],
-    escape_label: &mut [u32],
-    codes: &mut [u16],
-    counting: &mut [u64],
-    ranking: &mut [u64],
-) {
-    let b = hand(
+    bases: &'b mut [u64],
+    short: &'b mut [u16],
+    long_at: &'b mut [u32],
+    long_value: &'b mut [u64],
+    fields: &'b mut [u32],
+    table: &'b mut [u16],
+    escape_at: &'b mut [u64],
+    escape_label: &'b mut [u32],
+    codes: &'b mut [u16],
+    counting: &'b mut [u64],
+    ranking: &'b mut [u64],
+) -> &'b [u64] {
+    let mut says: [u64; 9] = [0; 9];
+    hand(
         bytes,
+        halves,
+        words,
+        cuts,
+        &mut says,
+        bases,
+        short,
+        long_at,
+        long_value,
+        fields,
+        table,
+        escape_at,
+        escape_label,
+        codes,
+        counting,
+        ranking,
+    );
+    left(
+        says,
         halves,
         words,
         cuts,
@@ -232,19 +246,7 @@ fn show<'a>(
         counting,
         ranking,
     );
-    answer::built(b);
-    offset_columns(bases, short, long_at, long_value, fields, table);
-    code_columns(escape_at, escape_label, codes, counting, ranking);
-    read(
-        b,
-        halves,
-        words,
-        cuts,
-        fields,
-        escape_at,
-        escape_label,
-        codes,
-    );
+    bases
 }
 
 // The columns hold nines before.

@@ -1,12 +1,16 @@
 // Case (h): over base 256 the id 264 is code 2, 4096 is 481, and 9999 is escaped.
+use crate::refused;
+use case_text::column::used_u32;
+use case_text::column::used_u64;
 use index::CodedIds;
 use index::CopiedId;
 
 fn show_id(answer: CopiedId) {
+    print::word(b"    ");
     match answer {
-        CopiedId::Id(id) => print::line(b"    id ", id),
-        CopiedId::Index(i) => print::line(b"    refused: INDEX, 11, at ", i as u64),
-        CopiedId::Copied(i) => print::line(b"    refused: COPIED, 5, at ", i as u64),
+        CopiedId::Id(id) => print::line(b"id ", id),
+        CopiedId::Index(i) => refused::tell(refused::INDEX, i),
+        CopiedId::Copied(i) => refused::tell(refused::COPIED, i),
     }
 }
 
@@ -20,14 +24,13 @@ fn show_ids(codes: &[u32], escape_places: &[u64], escape_ids: &[u64]) {
     show_id(index::id_at(codes, escape_places, escape_ids, 256, i));
 }
 
-// Codes the ids and reads them back from the used parts.
-fn there_and_back(
-    ids: &[u64],
-    codes: &mut [u32],
-    escape_places: &mut [u64],
-    escape_ids: &mut [u64],
-) {
-    let answer = index::code_ids(ids, 256, codes, escape_places, escape_ids);
+fn no_room(k: usize) {
+    print::word(b"  ");
+    refused::tell(refused::ROOM, k);
+}
+
+// What is left in the columns, and the ids read back from the used parts.
+fn left(answer: CodedIds, codes: &[u32], escape_places: &[u64], escape_ids: &[u64]) {
     print::column_u32(b"  codes", codes);
     print::column_u64(b"  escape places", escape_places);
     print::column_u64(b"  escape ids", escape_ids);
@@ -35,9 +38,25 @@ fn there_and_back(
         CodedIds::Done {
             codes: n,
             escapes: k,
-        } => show_ids(&codes[..n], &escape_places[..k], &escape_ids[..k]),
-        CodedIds::Room(k) => print::line(b"  refused: ROOM, 9, buffer ", k as u64),
+        } => show_ids(
+            used_u32(codes, n),
+            used_u64(escape_places, k),
+            used_u64(escape_ids, k),
+        ),
+        CodedIds::Room(k) => no_room(k),
     }
+}
+
+// Codes the ids and reads them back. The columns are lent for good, so that nothing has to be proved of how they come back.
+fn there_and_back<'b>(
+    ids: &[u64],
+    codes: &'b mut [u32],
+    escape_places: &'b mut [u64],
+    escape_ids: &'b mut [u64],
+) -> &'b [u32] {
+    let answer = index::code_ids(ids, 256, codes, escape_places, escape_ids);
+    left(answer, codes, escape_places, escape_ids);
+    codes
 }
 
 pub(crate) fn show() {

@@ -2,6 +2,7 @@
 mod blocked;
 mod copied;
 mod questions;
+mod refused;
 
 fn main() {
     print::word(b"The worked dump of document 01\n");
