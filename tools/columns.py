@@ -30,7 +30,7 @@ OWN = """
 s d xs values marks from to rows from_offsets from_labels from_weak weak answer
 """.split()
 
-PROGRAMS = {"print", "case_text", "replay", "show_cases", "show_worked"}
+PROGRAMS = {"print", "case_text", "case_graph", "replay", "show_cases", "show_worked"}
 
 
 def order_of(path, name):

@@ -82,7 +82,7 @@ fn copied<'a, 'b>(
         counting,
         ranking,
     );
-    *says = answer_numbers::built(b);
+    *says = answer_builds::built(b);
     targets
 }
 
@@ -157,7 +157,7 @@ fn raw<'a, 'b>(
         counting,
         ranking,
     );
-    *says = answer_numbers::built(b);
+    *says = answer_builds::built(b);
     targets
 }
 

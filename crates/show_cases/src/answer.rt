@@ -30,7 +30,7 @@ pub(crate) fn checked(call: &[u8], c: Checked) {
     print::word(call);
     match c {
         Checked::Accepted(n) => accepted(n),
-        Checked::Refused(r) => refusal(answer_numbers::built(Built::Refused(r))),
+        Checked::Refused(r) => refusal(answer_builds::built(Built::Refused(r))),
     }
 }
 

@@ -72,7 +72,7 @@ fn hand<'a, 'b>(
         counting,
         ranking,
     );
-    *says = answer_numbers::built(b);
+    *says = answer_builds::built(b);
     bases
 }
 
