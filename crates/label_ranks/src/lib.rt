@@ -83,7 +83,7 @@ pub fn rank_fields(
     columns::zero_u64(counts, 0);
     count_uses(labels, names, counts);
     let used = write_keys(counts, names, keys);
-    sort::sort_u64(&mut keys[0..used]);
+    sort64::sort_u64(&mut keys[0..used]);
     let n = coded_of(used);
     write_ranked(keys, n, fields);
     n
