@@ -83,7 +83,7 @@ pub fn rank_fields(
     columns::zero_u64(counting, 0);
     count_uses(labels, names, counting);
     let used = write_keys(counting, names, ranking);
-    sort::sort_u64(&mut ranking[0..used]);
+    sort64::sort_u64(&mut ranking[0..used]);
     let n = coded_of(used);
     write_ranked(ranking, n, fields);
     n
