@@ -50,7 +50,7 @@ module _ (x : Input) (r : Rooms) (b : BuildLeft) (left : b ≡ buildLeft x r) wh
 
     pub dangling-counted : b .says ! 7 ≡ total (lost x) (objectCount x)
     unfolding counts
-    dangling-counted = ap (λ (z : List ℕ). z ! 7) (says-are ∙ build-says x r accepted) ∙ dangling-lost x
+    dangling-counted = ap (λ (z : List ℕ). z ! 7) (says-are ∙ build-says x r accepted) ∙ dangling-lost x (build-passed x r accepted .sound)
 
     pub all-counted : total (held x) (objectCount x) ≡ b .says ! 1 + b .says ! 2 + b .says ! 7
     unfolding counts

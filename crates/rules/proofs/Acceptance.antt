@@ -1,5 +1,5 @@
 -- What acceptance gives, by name. Assumes nothing.
-use Prim.Native.Nat.{ℕ, suc, _+_, _-_, _≤_, _<_}
+use Prim.Native.Nat.{ℕ, suc, pred, _+_, _-_, _≤_, _<_}
 use native.Mathlib.Nat.{not-suc-le-zero}
 use native.Mathlib.Omega.{arith}
 use native.Mathlib.Decide.{decLt}
@@ -172,6 +172,15 @@ module _ (x : Input) (h : Sound x) (c : ℕ) (l : c < classCount (x .schema)) wh
   unfolding badClass badSlot
   slot-label k m = leb-false _ _ (none-of _ (any-false (badSlot (x .schema) c) _ k (none-of _ class-good 6) m) 0)
 
+  -- the offsets of a class rise
+  pub slot-order : (k : ℕ) → suc k < slotTotal (x .schema) c
+      → x .schema .slots .offsets ! slotPlace (x .schema) c k < x .schema .slots .offsets ! slotPlace (x .schema) c (suc k)
+  unfolding badClass badSlot
+  slot-order k m =
+      let p : pred (slotPlace (x .schema) c (suc k)) ≡ slotPlace (x .schema) c k = omega arith in
+      let good : badSlot (x .schema) c (suc k) ≡ false = any-false (badSlot (x .schema) c) _ (suc k) (none-of _ class-good 6) m in
+      leb-false _ _ (rw p at (second-fails _ _ (none-of _ good 2) (lt-ltb 0 (suc k) (omega arith))))
+
   pub static-name : (k : ℕ) → k < staticTotal (x .schema) c → x .schema .statics .names ! staticPlace (x .schema) c k < x .schema .names
   unfolding badClass badStatic
   static-name k m = leb-false _ _ (none-of _ (any-false (badStatic (x .schema) c) _ k (none-of _ class-good 7) m) 0)
@@ -228,6 +237,16 @@ module _ (x : Input) (h : Sound x) where
       go : (b : Bool) → eqb (x .objects .kinds ! o) 0 ≡ b → k < cond b (slotTotal (x .schema) (classOf x o)) 0
           → x .schema .slots .labels ! slotOf x o k < x .schema .names
       go true e m = slot-label x h (classOf x o) (class-in o l e) k m
+      go false e m = absurd (not-suc-le-zero m)
+
+  pub slots-rise : (o k : ℕ) → o < objectCount x → suc k < slotCount x o
+      → x .schema .slots .offsets ! slotOf x o k < x .schema .slots .offsets ! slotOf x o (suc k)
+  unfolding slotCount
+  slots-rise o k l m = go (eqb (x .objects .kinds ! o) 0) refl m
+    where
+      go : (b : Bool) → eqb (x .objects .kinds ! o) 0 ≡ b → suc k < cond b (slotTotal (x .schema) (classOf x o)) 0
+          → x .schema .slots .offsets ! slotOf x o k < x .schema .slots .offsets ! slotOf x o (suc k)
+      go true e m = slot-order x h (classOf x o) (class-in o l e) k m
       go false e m = absurd (not-suc-le-zero m)
 
   pub slotCount-few : (o : ℕ) → o < objectCount x → slotCount x o ≤ 268435456

@@ -14,8 +14,8 @@ use Rattle.rules.specs.Input.{Input, objectCount, classCount, elementCou
 use Rattle.rules.specs.Edges.{Ref, Outcome, edge, weak, missing, nothing, outcome, weakOf, missingOf, refWeak, refMissing, weakTargets, missingAt, refs}
 use Rattle.rules.specs.Edges.{slotRefs, otherRefs, slotRef, elementRef, staticRefs, classRefs, staticRef, loaderRef, graph}
 use Rattle.rules.proofs.Acceptance.{Passed, objects-few, slotCount-few, elements-few, statics-few, one-class}
+use Rattle.rules.proofs.Slots.{read-le}
 use Rattle.rules.proofs.Demand.{weak-count}
-use Rattle.rules.proofs.Laid.{read-le}
 
 -- a sum of n numbers that are at most k
 total-most : (f : ℕ → ℕ) (k n : ℕ) → ((i : ℕ) → i < n → f i ≤ k) → total f n ≤ n * k

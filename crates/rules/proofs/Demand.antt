@@ -13,12 +13,13 @@ use Rattle.columns.specs.Lists.{_!_, collect, tab, total, flat, sum, one, find,
 use Rattle.columns.proofs.Lists.{tab-at}
 use Rattle.columns.proofs.Sums.{sum-append, sum-collect, sum-tab, sum-flat, sum-ext, sum-one, sum-none, sum-sort, sum-map, total-ext, total-add, total-pick}
 use Rattle.columns.proofs.Sums.{length-collect}
-use Rattle.rules.specs.Input.{Input, Schema, objectCount, readSlots, elementCount, staticTotal, staticPlace, isObjectStatic, classesAt}
+use Rattle.rules.specs.Input.{Input, Schema, objectCount, readSlots, slotId, elementCount, staticTotal, staticPlace, isObjectStatic, classesAt}
 use Rattle.rules.specs.Edges.{Kind, slot, element, static, loader, Ref, Outcome, nothing, settled, outcome, edgeOf, weakOf, missingOf, refEdge, refWeak}
 use Rattle.rules.specs.Edges.{refMissing, edgesOf, weakTargets, missingAt, refs, slotRefs, otherRefs, slotRef, elementRef, staticRef, loaderRef}
 use Rattle.rules.specs.Edges.{staticRefs, classRefs, edges, offset, Pair, pairLe, pairsOf, weakPairs, graph}
 use Rattle.rules.specs.Demand.{tallyClass, tally, nonZero, isThere, isLost, never, held, lost}
-use Rattle.rules.proofs.Acceptance.{Passed, no-zero}
+use Rattle.rules.proofs.Acceptance.{Sound, Passed, no-zero}
+use Rattle.rules.proofs.Slots.{fits-total}
 
 -- f of a reference's id, and g of a loader's
 abbrev countedAs : (ℕ → ℕ) → (ℕ → ℕ) → Kind → ℕ → ℕ
@@ -46,10 +47,10 @@ module _ (f g : ℕ → ℕ) where
       ap₂ _+_ (total-ext _ _ (staticTotal s c) (λ k l. static-held s c k) ∙ sym (sum-collect counted (staticRefs s c) (staticTotal s c))) (sym (add-zero _))
       ∙ sym (sum-append counted (collect (staticRefs s c) (staticTotal s c)) (loaderRef s c ∷ []))
 
-  tally-is : (x : Input) (o : ℕ) → tally f g x o ≡ sum counted (refs x o)
+  tally-is : (x : Input) → Sound x → (o : ℕ) → o < objectCount x → tally f g x o ≡ sum counted (refs x o)
   unfolding tally refs slotRefs otherRefs slotRef elementRef
-  tally-is x o =
-      ap₂ _+_ (sym (sum-tab counted (slotRef x o) (readSlots x o)))
+  tally-is x h o l =
+      ap₂ _+_ (fits-total x h o l (λ k. f (slotId x o k)) ∙ sym (sum-tab counted (slotRef x o) (readSlots x o)))
       (ap₂ _+_ (sym (sum-tab counted (elementRef x o) (elementCount x o)))
       (sum-ext _ _ (class-held (x .schema)) (classesAt x o) ∙ sym (sum-flat counted (classRefs (x .schema)) (classesAt x o)))
       ∙ sym (sum-append counted (tab (elementRef x o) (elementCount x o)) (flat (classRefs (x .schema)) (classesAt x o))))
@@ -125,25 +126,25 @@ module _ (ids : List ℕ) where
       omega (arith, ref-held h r, refs-held h rs, length-append (refEdge ids r) (flat (refEdge ids) rs), length-append (refWeak ids r) (flat (refWeak ids) rs))
 
 -- The ids that no object has, counted from the input, are the missing of the outcomes: the dangling count is not invented.
-module _ (x : Input) where
-  pub lost-missing : (o : ℕ) → lost x o ≡ missingAt x o
+module _ (x : Input) (h : Sound x) where
+  pub lost-missing : (o : ℕ) → o < objectCount x → lost x o ≡ missingAt x o
   unfolding lost missingAt
-  lost-missing o = tally-is (isLost (x .objects .ids)) never x o ∙ sum-ext _ _ (ref-lost (x .objects .ids)) (refs x o)
+  lost-missing o l = tally-is (isLost (x .objects .ids)) never x h o l ∙ sum-ext _ _ (ref-lost (x .objects .ids)) (refs x o)
 
   pub dangling-lost : graph x .dangling ≡ total (lost x) (objectCount x)
   unfolding graph
-  dangling-lost = total-ext _ _ (objectCount x) (λ o l. sym (lost-missing o))
+  dangling-lost = total-ext _ _ (objectCount x) (λ o l. sym (lost-missing o l))
 
 constant : {A : Type 0} (b : Bool) (xs : List A) → sum (λ a. one b) xs ≡ cond b (length xs) 0
 constant true xs = sum-one xs
 constant false xs = sum-none xs
 
 -- Demand 3 of one object, on its edges and weak targets.
-pub held-edges : (x : Input) → Passed x → (o : ℕ) → held x o ≡ length (edgesOf x o) + length (weakTargets x o) + lost x o
+pub held-edges : (x : Input) → Passed x → (o : ℕ) → o < objectCount x → held x o ≡ length (edgesOf x o) + length (weakTargets x o) + lost x o
 unfolding held edgesOf weakTargets missingAt
-held-edges x h o =
-    tally-is nonZero (isThere (x .objects .ids)) x o ∙ refs-held (x .objects .ids) (no-zero x (h .sound)) (refs x o)
-    ∙ ap (λ (n : ℕ). length (edgesOf x o) + length (weakTargets x o) + n) (sym (lost-missing x o))
+held-edges x h o l =
+    tally-is nonZero (isThere (x .objects .ids)) x (h .sound) o l ∙ refs-held (x .objects .ids) (no-zero x (h .sound)) (refs x o)
+    ∙ ap (λ (n : ℕ). length (edgesOf x o) + length (weakTargets x o) + n) (sym (lost-missing x (h .sound) o l))
 
 module _ (x : Input) where
   abbrev n : ℕ
@@ -181,10 +182,10 @@ module _ (x : Input) where
   module _ (h : Passed x) where
     -- Demand 3 of one object's part of the columns: what it holds is its edges, its weak pairs, and the ids that no object has.
     pub demand : (o : ℕ) → o < n → held x o ≡ (graph x .offsets ! suc o - graph x .offsets ! o) + sum (λ i. one (eqb i o)) (graph x .weakFrom) + lost x o
-    demand o l = rw (degree-of o l, weak-of o l) (held-edges x h o)
+    demand o l = rw (degree-of o l, weak-of o l) (held-edges x h o l)
 
     -- Demand 3 summed.
     pub demand-total : total (held x) n ≡ length (graph x .targets) + length (graph x .weakFrom) + graph x .dangling
     demand-total =
-        total-ext _ _ n (λ o l. held-edges x h o) ∙ total-add (λ o. length (edgesOf x o) + length (weakTargets x o)) (lost x) n
-        ∙ ap₂ _+_ (total-add (λ o. length (edgesOf x o)) (λ o. length (weakTargets x o)) n ∙ sym (ap₂ _+_ edge-count weak-count)) (sym (dangling-lost x))
+        total-ext _ _ n (λ o l. held-edges x h o l) ∙ total-add (λ o. length (edgesOf x o) + length (weakTargets x o)) (lost x) n
+        ∙ ap₂ _+_ (total-add (λ o. length (edgesOf x o)) (λ o. length (weakTargets x o)) n ∙ sym (ap₂ _+_ edge-count weak-count)) (sym (dangling-lost x (h .sound)))

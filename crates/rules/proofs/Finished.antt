@@ -82,7 +82,7 @@ module _ (x : Input) where
     -- Demand 3 on the finished columns: what an object holds is the edges read, its weak pairs, and the ids that no object has.
     pub demand-read : (o : ℕ) → o < n → held x o ≡ length (edgesRead c o) + sum (λ i. one (eqb i o)) (c .weakFrom) + lost x o
     unfolding columnsOf
-    demand-read o l = rw (edges-read o l, weak-of x o l) (held-edges x h o)
+    demand-read o l = rw (edges-read o l, weak-of x o l) (held-edges x h o l)
 
     -- an answer on the plain columns is one on the edges
     plain-edges : (o : ℕ) (f : List Edge → List ℕ) → plainly (objectsOf (graph x)) o (f (edgesAt (graph x) o)) ≡ plainly n o (f (edgesOf x o))

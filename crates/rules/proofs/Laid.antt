@@ -12,13 +12,13 @@ use lib.Seq.{ext-getD}
 use borrow.Author.Tests.{le-leb, lt-ltb, leb-false, ltb-false, eq-eqb}
 use Rattle.columns.specs.Lists.{_!_, collect, tab, flat, total, part, find, sort, anyOf}
 use Rattle.columns.proofs.Lists.{tab-length, tab-at, map-at}
-use Rattle.columns.proofs.Sums.{flat-append, map-append, map-collect, length-collect, total-ext, part-collect, part-at, leading-within}
+use Rattle.columns.proofs.Sums.{flat-append, map-append, map-collect, length-collect, total-ext, part-collect, part-at}
 use Rattle.columns.proofs.Every.{Every, every-append, every-collect, every-flat, every-places, every-tab, every-map, every-index, every-sort, every-distinct}
 use Rattle.columns.proofs.Every.{every-at, sort-chain, chain-at}
 use Rattle.columns.proofs.Tests.{or-true, or-false}
 use Rattle.columns.proofs.Search.{find-get}
 use Rattle.rules.specs.Types.{LOADER, ARRAY-ELEMENT, isElement}
-use Rattle.rules.specs.Input.{Input, objectCount, classCount, slotCount, readSlots, elementCount, staticTotal, isObjectStatic, foundAt, classesAt}
+use Rattle.rules.specs.Input.{Input, objectCount, classCount, readSlots, elementCount, staticTotal, isObjectStatic, foundAt, classesAt}
 use Rattle.rules.specs.Edges.{Kind, slot, element, static, loader, Ref, Edge, Outcome, edge, weak, missing, nothing, settled, edgeOf, weakOf, outcome}
 use Rattle.rules.specs.Edges.{refEdge, refWeak, refs, slotRefs, otherRefs, slotRef, elementRef, staticRef, loaderRef, staticRefs, classRefs, edgesOf}
 use Rattle.rules.specs.Edges.{weakTargets, edges, offset, Pair, pairLe, pairsOf, weakPairs, distinctRoots, graph}
@@ -27,13 +27,10 @@ use Rattle.rules.specs.Needs.{objectsOf}
 use Rattle.rules.specs.Parts.{degree, pairAt, partsFaults}
 use Rattle.rules.specs.Questions.{edgesAt}
 use Rattle.rules.proofs.Acceptance.{Passed, names-few, slot-small, static-name, elements-few, root-in}
+use Rattle.rules.proofs.Slots.{read-le}
 use Rattle.rules.proofs.Demand.{offset-at, degree-of}
 use Rattle.rules.proofs.Rising.{Rising, afterAll, rising-append, after-append, Fields, fields-rise, fields-after, rising-at}
 use Rattle.rules.proofs.Meets.{Meets, isNamed, no-faults}
-
-pub read-le : (x : Input) (o : ℕ) → readSlots x o ≤ slotCount x o
-unfolding readSlots
-read-le x o = leading-within _ _
 
 -- one more reference, of element n
 next-rises : (b : List ℕ) (n : ℕ) (u : Outcome) → Rising 0 b × (afterAll 0 b ≤ n)

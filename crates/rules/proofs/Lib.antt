@@ -2,6 +2,7 @@ pub mod Types
 pub mod Worked
 pub mod Even
 pub mod Acceptance
+pub mod Slots
 pub mod Ids
 pub mod Demand
 pub mod Account

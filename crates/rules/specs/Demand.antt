@@ -4,16 +4,17 @@ use mathlib.Core.Bool.{cond, not}
 use mathlib.Core.List.{List, [], _∷_}
 use lib.Dec.{eqb}
 use Rattle.columns.specs.Lists.{_!_, total, sum, one, find, found, allOf}
-use Rattle.rules.specs.Input.{Input, Schema, readSlots, elementCount, slotId, elementId, staticTotal, staticPlace, isObjectStatic, classesAt}
+use Rattle.rules.specs.Input.{Input, Schema, slotCount, slotFits, slotId, elementCount, elementId, staticTotal, staticPlace, isObjectStatic, classesAt}
 
 -- f of each object static of class c, and g of its loader
 unfoldable pub tallyClass : (ℕ → ℕ) → (ℕ → ℕ) → Schema → ℕ → ℕ
 tallyClass f g s c = total (λ k. cond (isObjectStatic s c k) (f (s .statics .values ! staticPlace s c k)) 0) (staticTotal s c) + g (s .classes .loaders ! c)
 
--- f of each id in the slots of o that fit, in its elements, and in the object statics of the class found at o; g of that class's loader
+-- f of each id in the slots of o that fit, in its elements, and in the object statics of the class found at o; g of that class's loader. Every slot of
+-- the class is asked whether it fits: where reading stops is not used here.
 unfoldable pub tally : (ℕ → ℕ) → (ℕ → ℕ) → Input → ℕ → ℕ
 tally f g x o =
-    total (λ k. f (slotId x o k)) (readSlots x o)
+    total (λ k. cond (slotFits x o k) (f (slotId x o k)) 0) (slotCount x o)
     + (total (λ k. f (elementId x o k)) (elementCount x o) + sum (tallyClass f g (x .schema)) (classesAt x o))
 
 -- an id that is not 0; one that an object has; one that is not 0 and that no object has
