@@ -1,6 +1,7 @@
 pub mod Lists
 pub mod Tests
 pub mod Sums
+pub mod Leading
 pub mod Counts
 pub mod Every
 pub mod Parts
