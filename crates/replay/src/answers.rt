@@ -43,14 +43,6 @@ fn blocks_of(objects: usize) -> usize {
     objects / 256 + 1
 }
 
-fn table_of(names: usize) -> usize {
-    if names < 18446744073709551614 {
-        names + 2
-    } else {
-        names
-    }
-}
-
 // The question that a pair asks, and its answer.
 fn question(name: &[u8], object: u32, l: u32) {
     print::word(name);
@@ -140,7 +132,6 @@ fn field_answers(
     long_at: &[u32],
     long_value: &[u64],
     fields: &[u32],
-    table: &[u16],
     escape_at: &[u64],
     escape_label: &[u32],
     codes: &[u16],
@@ -160,7 +151,6 @@ fn field_answers(
             fields,
             escape_at,
             escape_label,
-            table,
             columns::index(o),
             l,
         ));
@@ -178,7 +168,6 @@ fn referent_answers(
     long_at: &[u32],
     long_value: &[u64],
     fields: &[u32],
-    table: &[u16],
     escape_at: &[u64],
     escape_label: &[u32],
     codes: &[u16],
@@ -198,7 +187,6 @@ fn referent_answers(
             fields,
             escape_at,
             escape_label,
-            table,
             weak_from,
             weak_to,
             columns::index(o),
@@ -255,7 +243,6 @@ fn asked<'a>(
     long_at: &[u32],
     long_value: &[u64],
     fields: &[u32],
-    table: &[u16],
     escape_at: &[u64],
     escape_label: &[u32],
     codes: &[u16],
@@ -282,7 +269,6 @@ fn asked<'a>(
         long_at,
         long_value,
         fields,
-        table,
         escape_at,
         escape_label,
         codes,
@@ -297,7 +283,6 @@ fn asked<'a>(
         long_at,
         long_value,
         fields,
-        table,
         escape_at,
         escape_label,
         codes,
@@ -329,7 +314,6 @@ pub(crate) fn all<'a>(
     long_at: &[u32],
     long_value: &[u64],
     fields: &[u32],
-    table: &[u16],
     escape_at: &[u64],
     escape_label: &[u32],
     codes: &[u16],
@@ -346,7 +330,6 @@ pub(crate) fn all<'a>(
         used_u32(long_at, c.long),
         used_u64(long_value, c.long),
         used_u32(fields, c.fields),
-        used_u16(table, table_of(n.names)),
         used_u64(escape_at, c.escapes),
         used_u32(escape_label, c.escapes),
         used_u16(codes, c.edges),

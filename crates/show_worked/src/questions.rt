@@ -18,7 +18,6 @@ fn asked_field(object: usize, label: u32) -> Field {
         &[0, 1, 2, Label::LOADER],
         &[],
         &[],
-        &[0, 1, 2, 3, 32767],
         object,
         label,
     )
@@ -35,7 +34,6 @@ fn asked_referent(object: usize, label: u32) -> Referent {
         &[0, 1, 2, Label::LOADER],
         &[],
         &[],
-        &[0, 1, 2, 3, 32767],
         &[1],
         &[0],
         object,

@@ -6,10 +6,10 @@ use Rattle.replay.proofs.answers.field_answers.Statement.{statement}
 use Rattle.replay.proofs.answers.field_answers.Tie as tie
 
 abbrev Inv-loop : tie.InvT-loop
-Inv-loop pairs targets bases short long-at long-value fields table escape-at escape-label codes i₀ t15 i = Unit
+Inv-loop pairs targets bases short long-at long-value fields escape-at escape-label codes i₀ t14 i = Unit
 
 abbrev μ-loop : tie.MeasureT-loop
-μ-loop pairs targets bases short long-at long-value fields table escape-at escape-label codes i₀ t15 i = length pairs - i
+μ-loop pairs targets bases short long-at long-value fields escape-at escape-label codes i₀ t14 i = length pairs - i
 
 pub field-answers-spec : {M : Type 1} → statement M
 field-answers-spec =

@@ -6,10 +6,10 @@ use Rattle.replay.proofs.answers.referent_answers.Statement.{statement}
 use Rattle.replay.proofs.answers.referent_answers.Tie as tie
 
 abbrev Inv-loop : tie.InvT-loop
-Inv-loop pairs targets weak-from weak-to bases short long-at long-value fields table escape-at escape-label codes i₀ t17 i = Unit
+Inv-loop pairs targets weak-from weak-to bases short long-at long-value fields escape-at escape-label codes i₀ t16 i = Unit
 
 abbrev μ-loop : tie.MeasureT-loop
-μ-loop pairs targets weak-from weak-to bases short long-at long-value fields table escape-at escape-label codes i₀ t17 i = length pairs - i
+μ-loop pairs targets weak-from weak-to bases short long-at long-value fields escape-at escape-label codes i₀ t16 i = length pairs - i
 
 pub referent-answers-spec : {M : Type 1} → statement M
 referent-answers-spec =
