@@ -21,7 +21,7 @@ PARTS = [name for name in BUILD if name != "roots"]
 PARTS.insert(PARTS.index("weak_to") + 1, "roots")
 # A question, which is asked of a build's columns.
 ASK = """
-bases short long_at long_value edge_codes targets fields escape_at escape_label table weak_from weak_to
+bases short long_at long_value edge_codes targets fields escape_at escape_label weak_from weak_to
 """.split()
 # A reader holds target and code parts (document 01).
 READER = "targets codes fields escape_at escape_label".split()

@@ -279,7 +279,6 @@ calls! {
         fields: &[u32],
         escape_at: &[u64],
         escape_label: &[u32],
-        table: &[u16],
         answer: &mut [u64; 4],
     )
 
@@ -296,7 +295,6 @@ calls! {
         fields: &[u32],
         escape_at: &[u64],
         escape_label: &[u32],
-        table: &[u16],
         weak_from: &[u32],
         weak_to: &[u32],
         answer: &mut [u64; 4],
@@ -346,7 +344,6 @@ calls! {
         edge_codes: &[u16],
         targets: &[u32],
         fields: &[u32],
-        table: &[u16],
     ) -> u64
 
     /// The target of a field of an object, or its smallest weak target, without long offsets and escapes.
@@ -358,7 +355,6 @@ calls! {
         edge_codes: &[u16],
         targets: &[u32],
         fields: &[u32],
-        table: &[u16],
         weak_from: &[u32],
         weak_to: &[u32],
     ) -> u64

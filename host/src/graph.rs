@@ -144,17 +144,17 @@ impl Graph {
     /// element.
     #[inline]
     pub fn field(&self, object: u32, label: u32) -> Result<Option<u32>, Refusal> {
-        let Columns { bases, short, codes, targets, fields, table, .. } = self.columns();
-        let reply = ffi::yokefathom_lean_field(object as usize, label, bases, short, codes, targets, fields, table);
+        let Columns { bases, short, codes, targets, fields, .. } = self.columns();
+        let reply = ffi::yokefathom_lean_field(object as usize, label, bases, short, codes, targets, fields);
         found(reply, || Whole(self).field(object, label))
     }
 
     /// The referent of a reference object, weak or strong: the field, or else the smallest weak target.
     #[inline]
     pub fn referent(&self, object: u32, label: u32) -> Result<Option<u32>, Refusal> {
-        let Columns { bases, short, codes, targets, fields, table, weak_from, weak_to, .. } = self.columns();
+        let Columns { bases, short, codes, targets, fields, weak_from, weak_to, .. } = self.columns();
         let at = object as usize;
-        let reply = ffi::yokefathom_lean_referent(at, label, bases, short, codes, targets, fields, table, weak_from, weak_to);
+        let reply = ffi::yokefathom_lean_referent(at, label, bases, short, codes, targets, fields, weak_from, weak_to);
         found(reply, || Whole(self).referent(object, label))
     }
 
@@ -245,4 +245,32 @@ pub struct Columns<'a> {
     pub escape_label: &'a [u32],
     /// Every edge's label in two bytes.
     pub codes: &'a [u16],
+}
+
+#[cfg(test)]
+mod tests {
+    use super::*;
+
+    /// Columns that no build left: one object and one edge, whose label stands among the fields and is escaped all the same.
+    #[test]
+    fn a_label_that_could_have_a_code_is_found_escaped() {
+        let graph = Graph {
+            bases: vec![0],
+            short: vec![0, 1],
+            codes: vec![0x7FFF],
+            targets: vec![0],
+            fields: vec![5],
+            table: vec![0; 8],
+            escape_at: vec![0],
+            escape_label: vec![5],
+            ..Graph::default()
+        };
+        for (label, held) in [(5, Some(0)), (4, None)] {
+            assert_eq!(graph.field(0, label), Ok(held));
+            assert_eq!(graph.referent(0, label), Ok(held));
+        }
+        let unread = Graph { escape_at: vec![1], ..graph };
+        assert_eq!(unread.field(0, 5), Err(Refusal::Columns(0)));
+        assert_eq!(unread.referent(0, 5), Err(Refusal::Columns(0)));
+    }
 }

@@ -32,11 +32,11 @@ impl Whole<'_> {
     /// [`Graph::field`].
     #[cold]
     pub fn field(self, object: u32, label: u32) -> Result<Option<u32>, Refusal> {
-        let Columns { bases, short, long_at, long_value, codes, targets, fields, escape_at, escape_label, table, .. } = self.0.columns();
+        let Columns { bases, short, long_at, long_value, codes, targets, fields, escape_at, escape_label, .. } = self.0.columns();
         let (object, mut answer) = (object as usize, [0; 4]);
         #[rustfmt::skip]
         ffi::yokefathom_field(
-            object, label, bases, short, long_at, long_value, codes, targets, fields, escape_at, escape_label, table, &mut answer,
+            object, label, bases, short, long_at, long_value, codes, targets, fields, escape_at, escape_label, &mut answer,
         );
         value_or_none(&answer)
     }
@@ -44,12 +44,12 @@ impl Whole<'_> {
     /// [`Graph::referent`].
     #[cold]
     pub fn referent(self, object: u32, label: u32) -> Result<Option<u32>, Refusal> {
-        let Columns { bases, short, long_at, long_value, codes, targets, fields, escape_at, escape_label, table, .. } = self.0.columns();
+        let Columns { bases, short, long_at, long_value, codes, targets, fields, escape_at, escape_label, .. } = self.0.columns();
         let Columns { weak_from, weak_to, .. } = self.0.columns();
         let (object, mut answer) = (object as usize, [0; 4]);
         #[rustfmt::skip]
         ffi::yokefathom_referent(
-            object, label, bases, short, long_at, long_value, codes, targets, fields, escape_at, escape_label, table,
+            object, label, bases, short, long_at, long_value, codes, targets, fields, escape_at, escape_label,
             weak_from, weak_to, &mut answer,
         );
         value_or_none(&answer)

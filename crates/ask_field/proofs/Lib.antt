@@ -1,5 +1,5 @@
 pub mod Placed
 pub mod Fields
 pub mod Promises
-pub mod Once
+pub mod Nothing
 pub mod Built

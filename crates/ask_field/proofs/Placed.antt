@@ -1,21 +1,23 @@
 -- Walks over an object's edges that look for one. Assumes nothing.
-use Prim.Native.Nat.{ℕ, _+_, _≤_, _<_}
+use Prim.Native.Nat.{ℕ, _+_, _%_, _≤_, _<_}
 use native.Mathlib.Omega.{arith}
-use mathlib.Core.Path.{_≡_, sym, ap}
+use mathlib.Core.Path.{_≡_, sym, ap, _∙_}
 use mathlib.Core.Bool.{Bool, true, false, cond}
 use mathlib.Core.List.{[], _∷_}
 use lib.Dec.{ltb}
-use borrow.Author.Tests.{lt-ltb, le-ltb, eq-eqb, ne-eqb}
-use Rattle.columns.specs.Lists.{firstPlace}
+use lib.ListN.{length}
+use borrow.Author.Tests.{lt-ltb, le-ltb, lt-leb, le-leb, eq-eqb, ne-eqb}
+use Rattle.columns.specs.Lists.{_!_, firstPlace, allOf}
 use Rattle.columns.proofs.First.{Searching, searching-more, searching-hit, searching-end}
 use Rattle.columns.proofs.Parts.{first-ext}
 use Rattle.columns.proofs.Tests.{no-places}
+use Rattle.rules.specs.Types.{ARRAY-ELEMENT}
 use Rattle.rules.specs.Labels.{Coded}
-use Rattle.labels.specs.Reading.{coarseBack}
+use Rattle.labels.specs.Reading.{fieldBack, codeBack, coarseBack}
 use Rattle.ask_field.specs.Sought.{firstSought, stops, decoded}
 use Rattle.ask_field.specs.declared.Sought.the-variants.{At, Nothing, Bad}
 
--- A walk that compares codes ends at the first edge that passes, or finds none.
+-- A walk that looks for an element ends at the first edge that passes, or finds none.
 module _ (t : ℕ → Bool) (n : ℕ) where
   pub placed-hit : {k : ℕ} → Searching t n k → k < n → t k ≡ true → At k ≡ firstSought t n
   unfolding firstSought
@@ -54,3 +56,29 @@ module _ (d : Coded) (e n l : ℕ) where
   pub decoded-end : {k : ℕ} → Searching (stops d e l) n k → n ≤ k → Nothing ≡ decoded d e n l
   unfolding decoded
   decoded-end {k} s h = let is : firstPlace (stops d e l) n ≡ k = sym (searching-end (stops d e l) n s h) in rw (is, le-ltb k n h)
+
+-- What an edge's code says by itself: an element, a field, or nothing where the code has no field, or its entry an element's label.
+module _ (d : Coded) (e : ℕ) where
+  pub element-says : 32768 ≤ d .codes ! e → coarseBack d e ≡ ARRAY-ELEMENT ∷ []
+  unfolding coarseBack
+  element-says h = rw (le-leb 32768 (d .codes ! e) h)
+
+  module _ (h : d .codes ! e < 32768) (q : d .codes ! e ≡ 32767 → ⊥) where
+    field-back : coarseBack d e ≡ fieldBack (d .fields) (d .codes ! e)
+    unfolding coarseBack codeBack
+    field-back =
+        let plain : d .codes ! e % 32768 ≡ 32767 → ⊥ = λ z. q (omega arith) in
+        rw (lt-leb 32768 (d .codes ! e) h, ne-eqb (d .codes ! e % 32768) 32767 plain)
+
+    pub past-says : length (d .fields) ≤ d .codes ! e → coarseBack d e ≡ []
+    unfolding fieldBack allOf
+    past-says l = field-back ∙ rw (le-ltb (d .codes ! e) (length (d .fields)) l)
+
+    module _ (l : d .codes ! e < length (d .fields)) where
+      pub field-says : d .fields ! (d .codes ! e) < ARRAY-ELEMENT → coarseBack d e ≡ d .fields ! (d .codes ! e) ∷ []
+      unfolding fieldBack allOf
+      field-says m = field-back ∙ rw (lt-ltb (d .codes ! e) (length (d .fields)) l, lt-leb ARRAY-ELEMENT (d .fields ! (d .codes ! e)) m)
+
+      pub no-field-says : ARRAY-ELEMENT ≤ d .fields ! (d .codes ! e) → coarseBack d e ≡ []
+      unfolding fieldBack allOf
+      no-field-says m = field-back ∙ rw (lt-ltb (d .codes ! e) (length (d .fields)) l, le-leb ARRAY-ELEMENT (d .fields ! (d .codes ! e)) m)

@@ -1,4 +1,4 @@
--- `field` and `referent` keep the promise on columns that code each label in one way, whatever the code table holds. Assumes nothing.
+-- `field` and `referent` keep the promise on any columns. Assumes nothing.
 use Prim.Native.Nat.{ℕ, suc, _+_, _-_, _%_, _≤_, _<_}
 use native.Mathlib.Nat.{add-zero}
 use native.Mathlib.Omega.{arith}
@@ -9,7 +9,7 @@ use mathlib.Core.List.{List, [], _∷_}
 use mathlib.Core.Option.{Option, none, some}
 use lib.Dec.{eqb, ltb, leb}
 use lib.ListN.{length, take}
-use borrow.Author.Tests.{lt-ltb, le-ltb, ltb-true, lt-leb, leb-true, leb-false, eq-eqb, ne-eqb, eqb-true, eqb-false, not-true}
+use borrow.Author.Tests.{lt-ltb, le-ltb, ltb-true, leb-true, leb-false, eq-eqb, ne-eqb, eqb-true, eqb-false, not-true}
 use Rattle.columns.specs.Lists.{_!_, firstPlace, allOf, find, found, lookup, part}
 use Rattle.columns.specs.Columns.{accepts}
 use Rattle.columns.specs.Ranks.{rank}
@@ -29,14 +29,14 @@ use Rattle.labels.specs.Reading.{coarseBack}
 use Rattle.labels.proofs.Back.{coarse-back}
 use Rattle.ask_span.specs.Reading.{weakRowsOf}
 use Rattle.ask_span.specs.Graph.{spanIn}
-use Rattle.ask_field.specs.Sought.{firstSought, elementAt, hasCode, codeFromTable, stops, ifRead, decoded, soughtIn, soughtTarget, fieldFound, firstWeak, orWeak, referentFound, OneCode}
+use Rattle.ask_field.specs.Sought.{firstSought, elementAt, stops, ifRead, decoded, soughtIn, soughtTarget, fieldFound, firstWeak, orWeak, referentFound}
 use Rattle.ask_field.specs.declared.Sought.{Sought}
 use Rattle.ask_field.specs.declared.Sought.the-variants.{At, Nothing, Bad}
 use Rattle.ask_span.proofs.Spans.{asked-reads, span-read, span-none, span-columns, weak-ordered, weak-climbs, weak-paired, weak-read, weak-columns}
 use Rattle.ask_span.proofs.FirstEdge.{first-edge}
 use Rattle.ask_span.proofs.Escapes.{escapes-rising, escapes-paired, edge-reads}
 use Rattle.ask_field.proofs.Placed.{placed-none, placed-ext}
-use Rattle.ask_field.proofs.Fields.{CodedAs, coded-as, sought-element, sought-other, sought-decoded, sought-coded}
+use Rattle.ask_field.proofs.Fields.{sought-element, sought-other, sought-field}
 
 beq-false : (b : Bool) → Bool·beq b false ≡ true → b ≡ false
 beq-false true e = absurd (false≢true e)
@@ -68,11 +68,6 @@ field-label d e k h f = rw f (leb-false ARRAY-ELEMENT _ (go (isEscaped c) refl (
         let other : c % 32768 ≡ 32767 → ⊥ = eqb-false (c % 32768) 32767 z in
         rw (ne-eqb c 32767 (λ q. other (omega arith))) (not-true (isElement (d .fields ! c)) (each-of _ h 1))
 
--- a code of the fields is read as their label
-code-label : (d : Coded) (e k c : ℕ) → c < 32767 → d .codes ! (e + k) ≡ c → coarseLabel d e k ≡ d .fields ! c
-unfolding coarseLabel
-code-label d e k c low q = rw (q, lt-leb 32768 c (omega arith), ne-eqb c 32767 (λ z. omega arith))
-
 module _ (c : Columns) (o l : ℕ) (h : readsBack c o ≡ true) where
   abbrev d : Coded
   d = c .labels
@@ -100,13 +95,6 @@ module _ (c : Columns) (o l : ℕ) (h : readsBack c o ≡ true) where
       go true t = sym (eq-eqb (coarseLabel d e k) l (element-label d e k t ∙ sym q))
       go false t = sym (ne-eqb (coarseLabel d e k) l (λ z. omega (arith, field-label d e k (edge-reads c o h k m) t)))
 
-  match-code : OneCode d e n → (x : ℕ) → CodedAs (d .fields) l x → (k : ℕ) → k < n → hasCode d e x k ≡ matches k
-  match-code one x w k m = go (eqb (d .codes ! (e + k)) x) refl
-    where
-      go : (b : Bool) → eqb (d .codes ! (e + k)) x ≡ b → b ≡ matches k
-      go true t = sym (eq-eqb (coarseLabel d e k) l (code-label d e k x (w .low) (eqb-true _ _ t) ∙ w .is))
-      go false t = sym (ne-eqb (coarseLabel d e k) l (λ q. eqb-false _ _ t (one k x m (w .low) (w .inside) (q ∙ sym (w .is)))))
-
   back : (k : ℕ) → k < n → coarseBack d (e + k) ≡ coarseLabel d e k ∷ []
   back k m = coarse-back d (escapes-rising c o h) (escapes-paired c o h) e k (edge-reads c o h k m)
 
@@ -125,24 +113,18 @@ module _ (c : Columns) (o l : ℕ) (h : readsBack c o ≡ true) where
       go false t = refl
 
   -- what is sought is the first edge whose coarse label is the one asked
-  sought-read : (table : List ℕ) → OneCode d e n → soughtIn d table e n l ≡ firstSought matches n
-  sought-read table one = go (eqb l ARRAY-ELEMENT) refl (isElement l) refl (eqb x 32767) refl
+  sought-read : soughtIn d e n l ≡ firstSought matches n
+  sought-read = go (eqb l ARRAY-ELEMENT) refl (isElement l) refl
     where
-      x : ℕ
-      x = codeFromTable (d .fields) table l
-
-      go : (a : Bool) → eqb l ARRAY-ELEMENT ≡ a → (b : Bool) → isElement l ≡ b → (z : Bool) → eqb x 32767 ≡ z → soughtIn d table e n l ≡ firstSought matches n
-      go true p b q z r =
+      go : (a : Bool) → eqb l ARRAY-ELEMENT ≡ a → (b : Bool) → isElement l ≡ b → soughtIn d e n l ≡ firstSought matches n
+      go true p b q =
           let is : l ≡ ARRAY-ELEMENT = eqb-true l ARRAY-ELEMENT p in
-          sym (sought-element d table e n l is) ∙ placed-ext (elementAt d e) matches n (match-element is)
-      go false p true q z r =
+          sym (sought-element d e n l is) ∙ placed-ext (elementAt d e) matches n (match-element is)
+      go false p true q =
           let not-it : l ≡ ARRAY-ELEMENT → ⊥ = eqb-false l ARRAY-ELEMENT p in
           let high : ARRAY-ELEMENT ≤ l = leb-true ARRAY-ELEMENT l q in
-          sym (sought-other d table e n l not-it high) ∙ placed-none matches n (λ k m. ne-eqb (coarseLabel d e k) l (λ w. not-it (omega (arith, coarse-most k m))))
-      go false p false q true r = sym (sought-decoded d table e n l (eqb-false l ARRAY-ELEMENT p) (leb-false ARRAY-ELEMENT l q) refl (eqb-true x 32767 r)) ∙ match-decoded
-      go false p false q false r =
-          sym (sought-coded d table e n l (eqb-false l ARRAY-ELEMENT p) (leb-false ARRAY-ELEMENT l q) refl (eqb-false x 32767 r))
-          ∙ placed-ext (hasCode d e x) matches n (match-code one x (coded-as (d .fields) table l _ (eqb-false x 32767 r)))
+          sym (sought-other d e n l not-it high) ∙ placed-none matches n (λ k m. ne-eqb (coarseLabel d e k) l (λ w. not-it (omega (arith, coarse-most k m))))
+      go false p false q = sym (sought-field d e n l (leb-false ARRAY-ELEMENT l q)) ∙ match-decoded
 
   -- the rules' answer on the edges that are read
   target-read : soughtTarget (c .targets) e o (firstSought matches n) ≡ 0 ∷ fieldIn (edgesRead c o) l
@@ -179,10 +161,10 @@ first-columns o says to h = go (accepts says) (ltb (says ! 1) (says ! 2))
     go true false q = absurd (false≢true q)
     go false u q = h q
 
-module _ (c : Columns) (table : List ℕ) (o l : ℕ) where
-  field-columns : eqb (fieldFound c table o l ! 0) 12 ≡ true → fieldFound c table o l ≡ 12 ∷ o ∷ []
+module _ (c : Columns) (o l : ℕ) where
+  field-columns : eqb (fieldFound c o l ! 0) 12 ≡ true → fieldFound c o l ≡ 12 ∷ o ∷ []
   unfolding fieldFound
-  field-columns = go (accepts says) (soughtIn (c .labels) table (says ! 1) (says ! 2 - says ! 1) l)
+  field-columns = go (accepts says) (soughtIn (c .labels) (says ! 1) (says ! 2 - says ! 1) l)
     where
       says : List ℕ
       says = spanIn c o
@@ -193,65 +175,64 @@ module _ (c : Columns) (table : List ℕ) (o l : ℕ) where
       go true Bad q = refl
       go false s q = span-columns c o q
 
-  field-none : objectsIn c ≤ o → fieldFound c table o l ≡ 11 ∷ o ∷ []
+  field-none : objectsIn c ≤ o → fieldFound c o l ≡ 11 ∷ o ∷ []
   unfolding fieldFound accepts
   field-none m = rw (span-none c o m)
 
-  module _ (one : o < objectsIn c → readsBack c o ≡ true → OneCode (c .labels) (offsetAt c o) (edgesIn c o)) where
-    field-read : o < objectsIn c → readsBack c o ≡ true → fieldFound c table o l ≡ 0 ∷ fieldIn (edgesRead c o) l
-    unfolding fieldFound accepts
-    field-read m h = rw (span-read c o m h) (ap (soughtTarget (c .targets) (offsetAt c o) o) (sought-read c o l h table (one m h)) ∙ target-read c o l h)
+  field-read : o < objectsIn c → readsBack c o ≡ true → fieldFound c o l ≡ 0 ∷ fieldIn (edgesRead c o) l
+  unfolding fieldFound accepts
+  field-read m h = rw (span-read c o m h) (ap (soughtTarget (c .targets) (offsetAt c o) o) (sought-read c o l h) ∙ target-read c o l h)
 
-    -- `field` keeps the promise, whatever the table holds.
-    pub field-promised : Promised o (fieldFound c table o l) (field c o l)
-    unfolding field
-    field-promised = record { answered = asked-reads c o (readsBack c o) _ _ field-read field-none; columns = field-columns }
+  -- `field` keeps the promise, on any columns.
+  pub field-promised : Promised o (fieldFound c o l) (field c o l)
+  unfolding field
+  field-promised = record { answered = asked-reads c o (readsBack c o) _ _ field-read field-none; columns = field-columns }
 
-    -- `referent`: the field, or else the first weak target, which is the smallest.
-    field-or : (es : Option Edge) (ws vs : List ℕ) → ws ≡ 0 ∷ smallest vs → orWeak (0 ∷ targetsOf es) ws ≡ 0 ∷ orSmallest (targetsOf es) vs
-    unfolding accepts allOf
-    field-or none ws vs q = q
-    field-or (some x) ws vs q = refl
+  -- `referent`: the field, or else the first weak target, which is the smallest.
+  field-or : (es : Option Edge) (ws vs : List ℕ) → ws ≡ 0 ∷ smallest vs → orWeak (0 ∷ targetsOf es) ws ≡ 0 ∷ orSmallest (targetsOf es) vs
+  unfolding accepts allOf
+  field-or none ws vs q = q
+  field-or (some x) ws vs q = refl
 
-    weakly-read : o < objectsIn c → weakReads c ≡ true → firstWeak (weakRowsOf (length (c .offsets .short)) (c .weakFrom) (c .weakTo) o) (c .weakTo) ≡ 0 ∷ smallest (weakRead c o)
-    unfolding firstWeak accepts weakRead
-    weakly-read m w =
-        rw (weak-read c o m w) (first-row (c .weakTo) (rank (c .weakFrom) o) (rank (c .weakFrom) (suc o)) inside ∙ ap (λ (ts : List ℕ). 0 ∷ ts) (sym sorted))
-      where
-        inside : rank (c .weakFrom) (suc o) ≤ length (c .weakTo)
-        inside = omega (arith, rank-within (c .weakFrom) (suc o), weak-paired c o w)
+  weakly-read : o < objectsIn c → weakReads c ≡ true → firstWeak (weakRowsOf (length (c .offsets .short)) (c .weakFrom) (c .weakTo) o) (c .weakTo) ≡ 0 ∷ smallest (weakRead c o)
+  unfolding firstWeak accepts weakRead
+  weakly-read m w =
+      rw (weak-read c o m w) (first-row (c .weakTo) (rank (c .weakFrom) o) (rank (c .weakFrom) (suc o)) inside ∙ ap (λ (ts : List ℕ). 0 ∷ ts) (sym sorted))
+    where
+      inside : rank (c .weakFrom) (suc o) ≤ length (c .weakTo)
+      inside = omega (arith, rank-within (c .weakFrom) (suc o), weak-paired c o w)
 
-        own : part (c .weakTo) (rank (c .weakFrom) o) (rank (c .weakFrom) (suc o)) ≡ weakIn (c .weakFrom) (c .weakTo) o
-        own = weak-part (c .weakFrom) (c .weakTo) o (sym (weak-paired c o w)) (weak-climbs c o w)
+      own : part (c .weakTo) (rank (c .weakFrom) o) (rank (c .weakFrom) (suc o)) ≡ weakIn (c .weakFrom) (c .weakTo) o
+      own = weak-part (c .weakFrom) (c .weakTo) o (sym (weak-paired c o w)) (weak-climbs c o w)
 
-        sorted : smallest (part (c .weakTo) (rank (c .weakFrom) o) (rank (c .weakFrom) (suc o))) ≡ take 1 (part (c .weakTo) (rank (c .weakFrom) o) (rank (c .weakFrom) (suc o)))
-        sorted = rw own (first-smallest (c .weakFrom) (c .weakTo) o (weak-ordered c o w))
+      sorted : smallest (part (c .weakTo) (rank (c .weakFrom) o) (rank (c .weakFrom) (suc o))) ≡ take 1 (part (c .weakTo) (rank (c .weakFrom) o) (rank (c .weakFrom) (suc o)))
+      sorted = rw own (first-smallest (c .weakFrom) (c .weakTo) o (weak-ordered c o w))
 
-    referent-read : o < objectsIn c → allOf (readsBack c o ∷ weakReads c ∷ []) ≡ true → referentFound c table o l ≡ 0 ∷ referentIn (edgesRead c o) (weakRead c o) l
-    unfolding referentFound fieldIn
-    referent-read m h =
-        ap (λ (f : List ℕ). orWeak f (firstWeak (weakRowsOf (length (c .offsets .short)) (c .weakFrom) (c .weakTo) o) (c .weakTo))) (field-read m (each-of _ h 0))
-        ∙ field-or (firstEdge (λ (x : Edge). eqb (coarse (x .label)) l) (edgesRead c o)) _ (weakRead c o) (weakly-read m (each-of _ h 1))
+  referent-read : o < objectsIn c → allOf (readsBack c o ∷ weakReads c ∷ []) ≡ true → referentFound c o l ≡ 0 ∷ referentIn (edgesRead c o) (weakRead c o) l
+  unfolding referentFound fieldIn
+  referent-read m h =
+      ap (λ (f : List ℕ). orWeak f (firstWeak (weakRowsOf (length (c .offsets .short)) (c .weakFrom) (c .weakTo) o) (c .weakTo))) (field-read m (each-of _ h 0))
+      ∙ field-or (firstEdge (λ (x : Edge). eqb (coarse (x .label)) l) (edgesRead c o)) _ (weakRead c o) (weakly-read m (each-of _ h 1))
 
-    referent-none : objectsIn c ≤ o → referentFound c table o l ≡ 11 ∷ o ∷ []
-    unfolding referentFound accepts allOf
-    referent-none m = rw (field-none m)
+  referent-none : objectsIn c ≤ o → referentFound c o l ≡ 11 ∷ o ∷ []
+  unfolding referentFound accepts allOf
+  referent-none m = rw (field-none m)
 
-    referent-columns : eqb (referentFound c table o l ! 0) 12 ≡ true → referentFound c table o l ≡ 12 ∷ o ∷ []
-    unfolding referentFound
-    referent-columns = go (allOf (accepts f ∷ eqb (length f) 1 ∷ []))
-      where
-        f : List ℕ
-        f = fieldFound c table o l
+  referent-columns : eqb (referentFound c o l ! 0) 12 ≡ true → referentFound c o l ≡ 12 ∷ o ∷ []
+  unfolding referentFound
+  referent-columns = go (allOf (accepts f ∷ eqb (length f) 1 ∷ []))
+    where
+      f : List ℕ
+      f = fieldFound c o l
 
-        says : List ℕ
-        says = weakRowsOf (length (c .offsets .short)) (c .weakFrom) (c .weakTo) o
+      says : List ℕ
+      says = weakRowsOf (length (c .offsets .short)) (c .weakFrom) (c .weakTo) o
 
-        go : (b : Bool) → eqb (cond b (firstWeak says (c .weakTo)) f ! 0) 12 ≡ true → cond b (firstWeak says (c .weakTo)) f ≡ 12 ∷ o ∷ []
-        go true = first-columns o says (c .weakTo) (weak-columns c o)
-        go false = field-columns
+      go : (b : Bool) → eqb (cond b (firstWeak says (c .weakTo)) f ! 0) 12 ≡ true → cond b (firstWeak says (c .weakTo)) f ≡ 12 ∷ o ∷ []
+      go true = first-columns o says (c .weakTo) (weak-columns c o)
+      go false = field-columns
 
-    -- `referent` keeps the promise, whatever the table holds.
-    pub referent-promised : Promised o (referentFound c table o l) (referent c o l)
-    unfolding referent
-    referent-promised = record { answered = asked-reads c o (allOf (readsBack c o ∷ weakReads c ∷ [])) _ _ referent-read referent-none; columns = referent-columns }
+  -- `referent` keeps the promise, on any columns.
+  pub referent-promised : Promised o (referentFound c o l) (referent c o l)
+  unfolding referent
+  referent-promised = record { answered = asked-reads c o (allOf (readsBack c o ∷ weakReads c ∷ [])) _ _ referent-read referent-none; columns = referent-columns }

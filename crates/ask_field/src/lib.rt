@@ -13,51 +13,17 @@ ghost use Prim.Native.Nat.{_+_, _<_, _≤_};
 ghost use lib.ListN.{length};
 ghost use Rattle.columns.specs.Loans.{entry};
 ghost use Rattle.columns.specs.Lists.{_!_};
-ghost use Rattle.rules.specs.Types.{fieldSays, referentSays};
+ghost use Rattle.rules.specs.Types.{ARRAY-ELEMENT, fieldSays, referentSays};
 ghost use Rattle.labels.specs.Reading.{codedOf};
 ghost use Rattle.ask_span.specs.Reading.{weakRowsOf};
 ghost use Rattle.ask_span.specs.Graph.{graphColumns, edgeColumns};
-ghost use Rattle.ask_field.specs.Sought.{firstSought, elementAt, hasCode, slotIn, codeFromTable, decoded, soughtIn, fieldFound, firstWeak, referentFound};
+ghost use Rattle.ask_field.specs.Sought.{firstSought, elementAt, decoded, soughtIn, fieldFound, firstWeak, referentFound};
 
 // The first edge that matches: its number among the object's. Bad where an edge before it cannot be read.
 pub enum Sought {
     At(usize),
     Nothing,
     Bad,
-}
-
-// Where the code table has a label's code.
-fn slot(label: u32, places: usize) -> usize
-    ensures { λ r. ⌜ r ≡ slotIn places label ⌝ }
-{
-    if label == Label::LOADER {
-        if places < 2 {
-            return 0;
-        }
-        return places - 2;
-    }
-    columns::index(label)
-}
-
-// A label's code by the table, if the fields agree.
-pub fn code_of(fields: &[u32], table: &[u16], label: u32) -> u16
-    ensures { λ r. ⌜ r ≡ codeFromTable (entry fields) (entry table) label ⌝ }
-{
-    let at = slot(label, table.len());
-    if table.len() <= at {
-        return ESCAPED;
-    }
-    let code = table[at];
-    if ESCAPED <= code {
-        return ESCAPED;
-    }
-    if fields.len() <= code as usize {
-        return ESCAPED;
-    }
-    if fields[code as usize] != label {
-        return ESCAPED;
-    }
-    code
 }
 
 pub fn first_element(edge_codes: &[u16], start: usize, count: usize) -> Sought
@@ -75,22 +41,7 @@ pub fn first_element(edge_codes: &[u16], start: usize, count: usize) -> Sought
     Sought::Nothing
 }
 
-pub fn first_code(edge_codes: &[u16], start: usize, count: usize, code: u16) -> Sought
-    requires { ⌜ start + count ≤ length (now «edge_codes») ⌝ }
-    ensures { λ r. ⌜ r ≡ firstSought (hasCode (codedOf (entry «edge_codes») [] [] []) start code) count ⌝ }
-{
-    let mut k = 0;
-    while k < count {
-        let edge = start + k;
-        if edge_codes[edge] == code {
-            return Sought::At(k);
-        }
-        k += 1;
-    }
-    Sought::Nothing
-}
-
-// The first edge with a label that has no code: each edge's label is read.
+// The first edge with a field's label. Elements are passed over, and a code says its field without a call; only an escape's row is looked for.
 fn first_label(
     edge_codes: &[u16],
     start: usize,
@@ -100,28 +51,46 @@ fn first_label(
     escape_label: &[u32],
     label: u32,
 ) -> Sought
-    requires { ⌜ start + count ≤ length (now «edge_codes») ⌝ }
+    requires { ⌜ (start + count ≤ length (now «edge_codes»)) × (label < ARRAY-ELEMENT) ⌝ }
     ensures { λ r. ⌜ r ≡ decoded (codedOf (entry «edge_codes») (entry fields) (entry «escape_at») (entry «escape_label»)) start count label ⌝ }
 {
     let mut k = 0;
     while k < count {
-        let read = labels::read::coarse(edge_codes, start + k, fields, escape_at, escape_label);
-        match read {
-            EdgeLabel::Is(l) => {
-                if l == label {
-                    return Sought::At(k);
+        let edge = start + k;
+        let code = edge_codes[edge];
+        if ELEMENT <= code {
+            k += 1;
+        } else if code == ESCAPED {
+            let read = labels::read::coarse(edge_codes, edge, fields, escape_at, escape_label);
+            match read {
+                EdgeLabel::Is(l) => {
+                    if l == label {
+                        return Sought::At(k);
+                    }
+                    k += 1;
                 }
-                k += 1;
+                EdgeLabel::Bad => {
+                    return Sought::Bad;
+                }
             }
-            EdgeLabel::Bad => {
+        } else {
+            if fields.len() <= code as usize {
                 return Sought::Bad;
             }
+            let l = fields[code as usize];
+            if l == label {
+                return Sought::At(k);
+            }
+            if Label::ARRAY_ELEMENT <= l {
+                return Sought::Bad;
+            }
+            k += 1;
         }
     }
     Sought::Nothing
 }
 
-// The first edge whose coarse label matches. A field with a code is found by comparing codes.
+// The first edge whose coarse label matches.
 fn seek(
     edge_codes: &[u16],
     start: usize,
@@ -129,11 +98,10 @@ fn seek(
     fields: &[u32],
     escape_at: &[u64],
     escape_label: &[u32],
-    table: &[u16],
     label: u32,
 ) -> Sought
     requires { ⌜ start + count ≤ length (now «edge_codes») ⌝ }
-    ensures { λ r. ⌜ r ≡ soughtIn (codedOf (entry «edge_codes») (entry fields) (entry «escape_at») (entry «escape_label»)) (entry table) start count label ⌝ }
+    ensures { λ r. ⌜ r ≡ soughtIn (codedOf (entry «edge_codes») (entry fields) (entry «escape_at») (entry «escape_label»)) start count label ⌝ }
 {
     if label == Label::ARRAY_ELEMENT {
         return first_element(edge_codes, start, count);
@@ -141,19 +109,15 @@ fn seek(
     if Label::ARRAY_ELEMENT <= label {
         return Sought::Nothing;
     }
-    let code = code_of(fields, table, label);
-    if code == ESCAPED {
-        return first_label(
-            edge_codes,
-            start,
-            count,
-            fields,
-            escape_at,
-            escape_label,
-            label,
-        );
-    }
-    first_code(edge_codes, start, count, code)
+    first_label(
+        edge_codes,
+        start,
+        count,
+        fields,
+        escape_at,
+        escape_label,
+        label,
+    )
 }
 
 pub fn target_at(targets: &[u32], edge: usize) -> u32
@@ -174,13 +138,12 @@ pub fn field(
     fields: &[u32],
     escape_at: &[u64],
     escape_label: &[u32],
-    table: &[u16],
     object: usize,
     label: u32,
 ) -> Field
     ensures { λ r. ⌜ (
         let graph = edgeColumns entry bases short «long_at» «long_value» «edge_codes» targets fields «escape_at» «escape_label» in
-        fieldSays r ≡ fieldFound graph (entry table) object label) ⌝ }
+        fieldSays r ≡ fieldFound graph object label) ⌝ }
 {
     let at = ask_span::span(
         bases,
@@ -200,7 +163,6 @@ pub fn field(
                 fields,
                 escape_at,
                 escape_label,
-                table,
                 label,
             );
             match sought {
@@ -242,7 +204,6 @@ pub fn referent(
     fields: &[u32],
     escape_at: &[u64],
     escape_label: &[u32],
-    table: &[u16],
     weak_from: &[u32],
     weak_to: &[u32],
     object: usize,
@@ -250,7 +211,7 @@ pub fn referent(
 ) -> Referent
     ensures { λ r. ⌜ (
         let graph = graphColumns entry bases short «long_at» «long_value» «edge_codes» targets fields «escape_at» «escape_label» «weak_from» «weak_to» in
-        referentSays r ≡ referentFound graph (entry table) object label) ⌝ }
+        referentSays r ≡ referentFound graph object label) ⌝ }
 {
     let held = field(
         bases,
@@ -262,7 +223,6 @@ pub fn referent(
         fields,
         escape_at,
         escape_label,
-        table,
         object,
         label,
     );

@@ -4,12 +4,10 @@ use labels::EdgeLabel;
 use rules::LabelOf;
 use rules::Span;
 ghost use mathlib.Core.Path.{_≡_};
-ghost use Prim.Native.Nat.{_<_};
-ghost use lib.ListN.{length};
 ghost use Rattle.columns.specs.Loans.{entry};
 ghost use Rattle.rules.specs.Types.{labelOfSays};
-ghost use Rattle.labels.specs.Reading.{readSays, coarseBack};
-ghost use Rattle.ask_short.specs.Lean.{plainOf, plainBack, leanEdges, labelFound};
+ghost use Rattle.labels.specs.Reading.{readSays};
+ghost use Rattle.ask_short.specs.Lean.{plainBack, leanEdges, labelFound};
 
 // The label of a code that is not escaped, where an element would have the index `next` at least.
 pub fn read_code(code: u16, next: u32, fields: &[u32]) -> EdgeLabel
@@ -17,15 +15,6 @@ pub fn read_code(code: u16, next: u32, fields: &[u32]) -> EdgeLabel
 {
     let none: [u64; 0] = [0; 0];
     labels::read::read_code(code, 0, next, fields, &none, &fields[..0])
-}
-
-// An edge's field label, or just `ARRAY_ELEMENT` for an element.
-pub fn coarse(edge_codes: &[u16], edge: usize, fields: &[u32]) -> EdgeLabel
-    requires { ⌜ edge < length (now «edge_codes») ⌝ }
-    ensures { λ r. ⌜ readSays r ≡ coarseBack (plainOf (entry «edge_codes») (entry fields)) edge ⌝ }
-{
-    let none: [u64; 0] = [0; 0];
-    labels::read::coarse(edge_codes, edge, fields, &none, &fields[..0])
 }
 
 // The exact label of an object's first edge to a target.

@@ -2,7 +2,7 @@
 use Prim.Native.Nat.{ℕ}
 use mathlib.Core.Path.{_≡_, _∙_}
 use mathlib.Core.Bool.{true}
-use mathlib.Core.List.{List, _∷_}
+use mathlib.Core.List.{_∷_}
 use Rattle.columns.specs.Columns.{accepts}
 use Rattle.rules.specs.Input.{Input, objectCount}
 use Rattle.rules.specs.Edges.{edgesOf, weakTargets, graph}
@@ -21,8 +21,8 @@ module _ (x : Input) (h : Passed x) (o : ℕ) where
   abbrev n : ℕ
   n = objectCount x
 
-  pub field-lean : (table : List ℕ) (l : ℕ) → accepts (fieldFound (leanly (strong c)) table o l) ≡ true → fieldFound (leanly (strong c)) table o l ≡ plainly n o (0 ∷ fieldIn (edgesOf x o) l)
-  field-lean table l a = field-whole (strong c) table o l a ∙ field-built x h o table l
+  pub field-lean : (l : ℕ) → accepts (fieldFound (leanly (strong c)) o l) ≡ true → fieldFound (leanly (strong c)) o l ≡ plainly n o (0 ∷ fieldIn (edgesOf x o) l)
+  field-lean l a = field-whole (strong c) o l a ∙ field-built x h o l
 
-  pub referent-lean : (table : List ℕ) (l : ℕ) → accepts (referentFound (leanly c) table o l) ≡ true → referentFound (leanly c) table o l ≡ plainly n o (0 ∷ referentIn (edgesOf x o) (weakTargets x o) l)
-  referent-lean table l a = referent-whole c table o l a ∙ referent-built x h o table l
+  pub referent-lean : (l : ℕ) → accepts (referentFound (leanly c) o l) ≡ true → referentFound (leanly c) o l ≡ plainly n o (0 ∷ referentIn (edgesOf x o) (weakTargets x o) l)
+  referent-lean l a = referent-whole c o l a ∙ referent-built x h o l

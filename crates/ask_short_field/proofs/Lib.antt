@@ -1,3 +1,4 @@
 pub mod Weak
+pub mod Plain
 pub mod Whole
 pub mod Built

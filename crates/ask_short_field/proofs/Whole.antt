@@ -16,7 +16,7 @@ use Rattle.rules.specs.Questions.{Columns}
 use Rattle.labels.specs.Reading.{coarseBack}
 use Rattle.ask_span.specs.Reading.{weakRowsOf}
 use Rattle.ask_span.specs.Graph.{spanIn}
-use Rattle.ask_field.specs.Sought.{stops, decoded, firstSought, elementAt, hasCode, codeFromTable, soughtIn, soughtTarget, fieldFound, firstWeak, orWeak, referentFound}
+use Rattle.ask_field.specs.Sought.{stops, decoded, firstSought, elementAt, soughtIn, soughtTarget, fieldFound, firstWeak, orWeak, referentFound}
 use Rattle.ask_field.specs.declared.Sought.{Sought}
 use Rattle.ask_field.specs.declared.Sought.the-variants.{At, Nothing, Bad}
 use Rattle.ask_field.proofs.Placed.{decoded-bad, decoded-end}
@@ -56,43 +56,39 @@ module _ (d : Coded) (e n l : ℕ) (good : decoded (plainCoded d) e n l ≡ Bad 
   decoded-whole : decoded (plainCoded d) e n l ≡ decoded d e n l
   decoded-whole = walks n 0 (omega arith) (searching-start (stops (plainCoded d) e l) n) (searching-start (stops d e l) n)
 
-sought-whole : (d : Coded) (table : List ℕ) (e n l : ℕ) → (soughtIn (plainCoded d) table e n l ≡ Bad → ⊥) → soughtIn (plainCoded d) table e n l ≡ soughtIn d table e n l
+sought-whole : (d : Coded) (e n l : ℕ) → (soughtIn (plainCoded d) e n l ≡ Bad → ⊥) → soughtIn (plainCoded d) e n l ≡ soughtIn d e n l
 unfolding soughtIn
-sought-whole d table e n l = go (eqb l ARRAY-ELEMENT) (isElement l) (eqb (codeFromTable (d .fields) table l) 32767)
+sought-whole d e n l = go (eqb l ARRAY-ELEMENT) (isElement l)
   where
     x : Sought
     x = firstSought (elementAt d e) n
 
-    y : Sought
-    y = firstSought (hasCode d e (codeFromTable (d .fields) table l)) n
-
-    go : (a b z : Bool) → (cond a x (cond b Nothing (cond z (decoded (plainCoded d) e n l) y)) ≡ Bad → ⊥) → cond a x (cond b Nothing (cond z (decoded (plainCoded d) e n l) y)) ≡ cond a x (cond b Nothing (cond z (decoded d e n l) y))
-    go true b z q = refl
-    go false true z q = refl
-    go false false true q = decoded-whole d e n l q
-    go false false false q = refl
+    go : (a b : Bool) → (cond a x (cond b Nothing (decoded (plainCoded d) e n l)) ≡ Bad → ⊥) → cond a x (cond b Nothing (decoded (plainCoded d) e n l)) ≡ cond a x (cond b Nothing (decoded d e n l))
+    go true b q = refl
+    go false true q = refl
+    go false false q = decoded-whole d e n l q
 
 is-found : (ts : List ℕ) (e o : ℕ) (x y : Sought) → ((x ≡ Bad → ⊥) → x ≡ y) → accepts (soughtTarget ts e o x) ≡ true → soughtTarget ts e o x ≡ soughtTarget ts e o y
 is-found ts e o (At k) y h q = ap (soughtTarget ts e o) (h (λ r. let z : _≡_ {A = ℕ} 0 1 = cc in absurd (omega arith)))
 is-found ts e o Nothing y h q = ap (soughtTarget ts e o) (h (λ r. let z : _≡_ {A = ℕ} 0 1 = cc in absurd (omega arith)))
 is-found ts e o Bad y h q = absurd (false≢true (sym (no-columns o) ∙ q))
 
-module _ (c : Columns) (table : List ℕ) (o l : ℕ) where
+module _ (c : Columns) (o l : ℕ) where
   abbrev at : List ℕ
   at = spanIn (leanly c) o
 
-  pub field-whole : accepts (fieldFound (leanly c) table o l) ≡ true → fieldFound (leanly c) table o l ≡ fieldFound c table o l
+  pub field-whole : accepts (fieldFound (leanly c) o l) ≡ true → fieldFound (leanly c) o l ≡ fieldFound c o l
   unfolding fieldFound
   field-whole h =
-      let a = by-span at (soughtTarget (c .targets) (at ! 1) o (soughtIn (plainCoded (c .labels)) table (at ! 1) (at ! 2 - at ! 1) l)) h in
+      let a = by-span at (soughtTarget (c .targets) (at ! 1) o (soughtIn (plainCoded (c .labels)) (at ! 1) (at ! 2 - at ! 1) l)) h in
       go (accepts at) a h ∙ ap from (span-whole (c .offsets) (length (c .labels .codes)) (length (c .targets)) o a)
     where
       from : List ℕ → List ℕ
-      from s = cond (accepts s) (soughtTarget (c .targets) (s ! 1) o (soughtIn (c .labels) table (s ! 1) (s ! 2 - s ! 1) l)) s
+      from s = cond (accepts s) (soughtTarget (c .targets) (s ! 1) o (soughtIn (c .labels) (s ! 1) (s ! 2 - s ! 1) l)) s
 
-      go : (b : Bool) → b ≡ true → accepts (cond b (soughtTarget (c .targets) (at ! 1) o (soughtIn (plainCoded (c .labels)) table (at ! 1) (at ! 2 - at ! 1) l)) at) ≡ true
-          → cond b (soughtTarget (c .targets) (at ! 1) o (soughtIn (plainCoded (c .labels)) table (at ! 1) (at ! 2 - at ! 1) l)) at ≡ cond b (soughtTarget (c .targets) (at ! 1) o (soughtIn (c .labels) table (at ! 1) (at ! 2 - at ! 1) l)) at
-      go true e q = is-found (c .targets) (at ! 1) o (soughtIn (plainCoded (c .labels)) table (at ! 1) (at ! 2 - at ! 1) l) (soughtIn (c .labels) table (at ! 1) (at ! 2 - at ! 1) l) (sought-whole (c .labels) table (at ! 1) (at ! 2 - at ! 1) l) q
+      go : (b : Bool) → b ≡ true → accepts (cond b (soughtTarget (c .targets) (at ! 1) o (soughtIn (plainCoded (c .labels)) (at ! 1) (at ! 2 - at ! 1) l)) at) ≡ true
+          → cond b (soughtTarget (c .targets) (at ! 1) o (soughtIn (plainCoded (c .labels)) (at ! 1) (at ! 2 - at ! 1) l)) at ≡ cond b (soughtTarget (c .targets) (at ! 1) o (soughtIn (c .labels) (at ! 1) (at ! 2 - at ! 1) l)) at
+      go true e q = is-found (c .targets) (at ! 1) o (soughtIn (plainCoded (c .labels)) (at ! 1) (at ! 2 - at ! 1) l) (soughtIn (c .labels) (at ! 1) (at ! 2 - at ! 1) l) (sought-whole (c .labels) (at ! 1) (at ! 2 - at ! 1) l) q
       go false e q = absurd (false≢true e)
 
   or-reads : (f w : List ℕ) → accepts (orWeak f w) ≡ true → accepts f ≡ true
@@ -103,9 +99,9 @@ module _ (c : Columns) (table : List ℕ) (o l : ℕ) where
       go true e q = refl
       go false e q = absurd (false≢true (sym e ∙ q))
 
-  pub referent-whole : accepts (referentFound (leanly c) table o l) ≡ true → referentFound (leanly c) table o l ≡ referentFound c table o l
+  pub referent-whole : accepts (referentFound (leanly c) o l) ≡ true → referentFound (leanly c) o l ≡ referentFound c o l
   unfolding referentFound
-  referent-whole h = ap (λ (f : List ℕ). orWeak f w) (field-whole (or-reads (fieldFound (leanly c) table o l) w h))
+  referent-whole h = ap (λ (f : List ℕ). orWeak f w) (field-whole (or-reads (fieldFound (leanly c) o l) w h))
     where
       w : List ℕ
       w = firstWeak (weakRowsOf (length (c .offsets .short)) (c .weakFrom) (c .weakTo) o) (c .weakTo)

@@ -1,6 +1,6 @@
 // The target of an object's field, and of its weak reference, by the short columns alone, as `ask_short` answers the other questions.
 use ask_field::Sought;
-use labels::EdgeLabel;
+use labels::code::ELEMENT;
 use labels::code::ESCAPED;
 use rules::Field;
 use rules::Label;
@@ -8,50 +8,51 @@ use rules::Referent;
 use rules::Span;
 ghost use mathlib.Core.Path.{_≡_};
 ghost use mathlib.Core.List.{[], _∷_};
-ghost use Prim.Native.Nat.{_+_, _≤_};
+ghost use Prim.Native.Nat.{_+_, _<_, _≤_};
 ghost use lib.ListN.{length};
 ghost use mathlib.Core.Bool.{true};
 ghost use Rattle.columns.specs.Loans.{entry};
 ghost use Rattle.columns.specs.Ranks.{bisect};
-ghost use Rattle.rules.specs.Types.{fieldSays, referentSays};
+ghost use Rattle.rules.specs.Types.{ARRAY-ELEMENT, fieldSays, referentSays};
 ghost use Rattle.ask_span.specs.Reading.{weakRowsOf};
 ghost use Rattle.ask_field.specs.Sought.{decoded, soughtIn, fieldFound, firstWeak, referentFound};
 ghost use Rattle.ask_short.specs.Lean.{plainOf, leanColumns, leanEdges};
 
-// The first edge with a label that has no code: each edge's label is read.
+// The first edge with a field's label. Elements are passed over; an escape cannot be read here.
 fn first_label(edge_codes: &[u16], start: usize, count: usize, fields: &[u32], label: u32) -> Sought
-    requires { ⌜ start + count ≤ length (now «edge_codes») ⌝ }
+    requires { ⌜ (start + count ≤ length (now «edge_codes»)) × (label < ARRAY-ELEMENT) ⌝ }
     ensures { λ r. ⌜ r ≡ decoded (plainOf (entry «edge_codes») (entry fields)) start count label ⌝ }
 {
     let mut k = 0;
     while k < count {
-        let read = ask_short::label::coarse(edge_codes, start + k, fields);
-        match read {
-            EdgeLabel::Is(l) => {
-                if l == label {
-                    return Sought::At(k);
-                }
-                k += 1;
-            }
-            EdgeLabel::Bad => {
+        let edge = start + k;
+        let code = edge_codes[edge];
+        if ELEMENT <= code {
+            k += 1;
+        } else {
+            if code == ESCAPED {
                 return Sought::Bad;
             }
+            if fields.len() <= code as usize {
+                return Sought::Bad;
+            }
+            let l = fields[code as usize];
+            if l == label {
+                return Sought::At(k);
+            }
+            if Label::ARRAY_ELEMENT <= l {
+                return Sought::Bad;
+            }
+            k += 1;
         }
     }
     Sought::Nothing
 }
 
-// The first edge whose coarse label matches. A field with a code is found by comparing codes.
-fn seek(
-    edge_codes: &[u16],
-    start: usize,
-    count: usize,
-    fields: &[u32],
-    table: &[u16],
-    label: u32,
-) -> Sought
+// The first edge whose coarse label matches.
+fn seek(edge_codes: &[u16], start: usize, count: usize, fields: &[u32], label: u32) -> Sought
     requires { ⌜ start + count ≤ length (now «edge_codes») ⌝ }
-    ensures { λ r. ⌜ r ≡ soughtIn (plainOf (entry «edge_codes») (entry fields)) (entry table) start count label ⌝ }
+    ensures { λ r. ⌜ r ≡ soughtIn (plainOf (entry «edge_codes») (entry fields)) start count label ⌝ }
 {
     if label == Label::ARRAY_ELEMENT {
         return ask_field::first_element(edge_codes, start, count);
@@ -59,11 +60,7 @@ fn seek(
     if Label::ARRAY_ELEMENT <= label {
         return Sought::Nothing;
     }
-    let code = ask_field::code_of(fields, table, label);
-    if code == ESCAPED {
-        return first_label(edge_codes, start, count, fields, label);
-    }
-    ask_field::first_code(edge_codes, start, count, code)
+    first_label(edge_codes, start, count, fields, label)
 }
 
 // The target of a field of an object: of its first edge whose coarse label matches.
@@ -73,16 +70,15 @@ pub fn field(
     edge_codes: &[u16],
     targets: &[u32],
     fields: &[u32],
-    table: &[u16],
     object: usize,
     label: u32,
 ) -> Field
-    ensures { λ r. ⌜ fieldSays r ≡ fieldFound (leanEdges entry bases short «edge_codes» targets fields) (entry table) object label ⌝ }
+    ensures { λ r. ⌜ fieldSays r ≡ fieldFound (leanEdges entry bases short «edge_codes» targets fields) object label ⌝ }
 {
     let at = ask_short::span(bases, short, edge_codes.len(), targets.len(), object);
     match at {
         Span::Edges { start, end } => {
-            let sought = seek(edge_codes, start, end - start, fields, table, label);
+            let sought = seek(edge_codes, start, end - start, fields, label);
             match sought {
                 Sought::At(k) => Field::Target(ask_field::target_at(targets, start + k)),
                 Sought::Nothing => Field::Nothing,
@@ -149,24 +145,14 @@ pub fn referent(
     edge_codes: &[u16],
     targets: &[u32],
     fields: &[u32],
-    table: &[u16],
     weak_from: &[u32],
     weak_to: &[u32],
     object: usize,
     label: u32,
 ) -> Referent
-    ensures { λ r. ⌜ referentSays r ≡ referentFound (leanColumns entry bases short «edge_codes» targets fields «weak_from» «weak_to») (entry table) object label ⌝ }
+    ensures { λ r. ⌜ referentSays r ≡ referentFound (leanColumns entry bases short «edge_codes» targets fields «weak_from» «weak_to») object label ⌝ }
 {
-    let held = field(
-        bases,
-        short,
-        edge_codes,
-        targets,
-        fields,
-        table,
-        object,
-        label,
-    );
+    let held = field(bases, short, edge_codes, targets, fields, object, label);
     match held {
         Field::Target(t) => Referent::Target(t),
         Field::Nothing => first_weak(short, weak_from, weak_to, object),

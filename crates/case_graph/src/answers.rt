@@ -24,14 +24,6 @@ fn blocks_of(objects: usize) -> usize {
     objects / 256 + 1
 }
 
-fn table_of(names: usize) -> usize {
-    if names < 18446744073709551614 {
-        names + 2
-    } else {
-        names
-    }
-}
-
 // What a question asks: an object, and a label or a target.
 struct Pair {
     object: u32,
@@ -162,7 +154,6 @@ fn field_answers(
     long_at: &[u32],
     long_value: &[u64],
     fields: &[u32],
-    table: &[u16],
     escape_at: &[u64],
     escape_label: &[u32],
     codes: &[u16],
@@ -182,7 +173,6 @@ fn field_answers(
             fields,
             escape_at,
             escape_label,
-            table,
             columns::index(p.object),
             p.other,
         ));
@@ -200,7 +190,6 @@ fn referent_answers(
     long_at: &[u32],
     long_value: &[u64],
     fields: &[u32],
-    table: &[u16],
     escape_at: &[u64],
     escape_label: &[u32],
     codes: &[u16],
@@ -220,7 +209,6 @@ fn referent_answers(
             fields,
             escape_at,
             escape_label,
-            table,
             weak_from,
             weak_to,
             columns::index(p.object),
@@ -277,7 +265,6 @@ fn asked<'a>(
     long_at: &[u32],
     long_value: &[u64],
     fields: &[u32],
-    table: &[u16],
     escape_at: &[u64],
     escape_label: &[u32],
     codes: &[u16],
@@ -304,7 +291,6 @@ fn asked<'a>(
         long_at,
         long_value,
         fields,
-        table,
         escape_at,
         escape_label,
         codes,
@@ -319,7 +305,6 @@ fn asked<'a>(
         long_at,
         long_value,
         fields,
-        table,
         escape_at,
         escape_label,
         codes,
@@ -351,7 +336,6 @@ pub(crate) fn all<'a>(
     long_at: &[u32],
     long_value: &[u64],
     fields: &[u32],
-    table: &[u16],
     escape_at: &[u64],
     escape_label: &[u32],
     codes: &[u16],
@@ -368,7 +352,6 @@ pub(crate) fn all<'a>(
         used_u32(long_at, c.long),
         used_u64(long_value, c.long),
         used_u32(fields, c.fields),
-        used_u16(table, table_of(n.names)),
         used_u64(escape_at, c.escapes),
         used_u32(escape_label, c.escapes),
         used_u16(codes, c.edges),

@@ -218,7 +218,6 @@ fn done<'a>(
         long_at,
         long_value,
         fields,
-        table,
         escape_at,
         escape_label,
         codes,

@@ -211,12 +211,11 @@ pub extern "C" fn yokefathom_field(
     fields: &[u32],
     escape_at: &[u64],
     escape_label: &[u32],
-    table: &[u16],
     answer: &mut [u64; 4],
 )
     ensures { λ _. ⌜ (
         let graph = edgeColumns entry bases short «long_at» «long_value» «edge_codes» targets fields «escape_at» «escape_label» in
-        exit answer ≡ told 4 (fieldFound graph (entry table) object label)) ⌝ }
+        exit answer ≡ told 4 (fieldFound graph object label)) ⌝ }
 {
     let found = ask_field::field(
         bases,
@@ -228,7 +227,6 @@ pub extern "C" fn yokefathom_field(
         fields,
         escape_at,
         escape_label,
-        table,
         object,
         label,
     );
@@ -250,14 +248,13 @@ pub extern "C" fn yokefathom_referent(
     fields: &[u32],
     escape_at: &[u64],
     escape_label: &[u32],
-    table: &[u16],
     weak_from: &[u32],
     weak_to: &[u32],
     answer: &mut [u64; 4],
 )
     ensures { λ _. ⌜ (
         let graph = graphColumns entry bases short «long_at» «long_value» «edge_codes» targets fields «escape_at» «escape_label» «weak_from» «weak_to» in
-        exit answer ≡ told 4 (referentFound graph (entry table) object label)) ⌝ }
+        exit answer ≡ told 4 (referentFound graph object label)) ⌝ }
 {
     let found = ask_field::referent(
         bases,
@@ -269,7 +266,6 @@ pub extern "C" fn yokefathom_referent(
         fields,
         escape_at,
         escape_label,
-        table,
         weak_from,
         weak_to,
         object,
@@ -360,20 +356,10 @@ pub extern "C" fn yokefathom_lean_field(
     edge_codes: &[u16],
     targets: &[u32],
     fields: &[u32],
-    table: &[u16],
 ) -> u64
-    ensures { λ r. ⌜ r ≡ replyOf (fieldFound (leanEdges entry bases short «edge_codes» targets fields) (entry table) object label) ⌝ }
+    ensures { λ r. ⌜ r ≡ replyOf (fieldFound (leanEdges entry bases short «edge_codes» targets fields) object label) ⌝ }
 {
-    let found = ask_short_field::field(
-        bases,
-        short,
-        edge_codes,
-        targets,
-        fields,
-        table,
-        object,
-        label,
-    );
+    let found = ask_short_field::field(bases, short, edge_codes, targets, fields, object, label);
     answer_replies::field_reply(found)
 }
 
@@ -386,11 +372,10 @@ pub extern "C" fn yokefathom_lean_referent(
     edge_codes: &[u16],
     targets: &[u32],
     fields: &[u32],
-    table: &[u16],
     weak_from: &[u32],
     weak_to: &[u32],
 ) -> u64
-    ensures { λ r. ⌜ r ≡ replyOf (referentFound (leanColumns entry bases short «edge_codes» targets fields «weak_from» «weak_to») (entry table) object label) ⌝ }
+    ensures { λ r. ⌜ r ≡ replyOf (referentFound (leanColumns entry bases short «edge_codes» targets fields «weak_from» «weak_to») object label) ⌝ }
 {
     let found = ask_short_field::referent(
         bases,
@@ -398,7 +383,6 @@ pub extern "C" fn yokefathom_lean_referent(
         edge_codes,
         targets,
         fields,
-        table,
         weak_from,
         weak_to,
         object,
