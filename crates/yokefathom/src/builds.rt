@@ -1,4 +1,4 @@
-// The two builds. Each makes the hints that lookups start from, in the column for short offsets, which is idle until offsets are coded.
+// The two builds.
 use rules::ReferencePolicy;
 ghost use Rattle.columns.specs.Loans.{entry, exit};
 ghost use Rattle.rules.specs.Built.{buildLeft};
@@ -66,7 +66,6 @@ pub extern "C" fn yokefathom_build_copied(
         BuildTold (buildLeft input room) (exit answer)
         (exit targets) (exit labels) (exit «weak_from») (exit «weak_to») (exit «roots_out») (exit working) coded (exit account)) ⌝ }
 {
-    lookup::hints::mark(ids, short);
     let built = build::build_copied(
         ids,
         kinds,
@@ -180,7 +179,6 @@ pub extern "C" fn yokefathom_build_raw(
         BuildTold (buildLeft input room) (exit answer)
         (exit targets) (exit labels) (exit «weak_from») (exit «weak_to») (exit «roots_out») (exit working) coded (exit account)) ⌝ }
 {
-    lookup::hints::mark(ids, short);
     let built = build::build_raw(
         ids,
         kinds,

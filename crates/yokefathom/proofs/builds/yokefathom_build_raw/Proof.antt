@@ -1,5 +1,4 @@
 -- `yokefathom::builds::yokefathom_build_raw` meets its contract. Assumes nothing.
-use mathlib.Core.Path.{_∙_}
 use Rattle.yokefathom.proofs.Left.{build-told}
 use borrow.Author.Needs.{needs}
 use Rattle.yokefathom.proofs.builds.yokefathom_build_raw.Statement.{statement}
@@ -9,24 +8,21 @@ use Rattle.yokefathom.proofs.builds.yokefathom_build_raw.Tie as tie
 abbrev from-end : tie.After-built → tie.After-built
 from-end c = c
 
-abbrev from-built : tie.After-slice-known35 → tie.After-build-raw
+abbrev from-built : tie.After-slice-known34 → tie.After-build-raw
 from-built c =
     c .before .before .before .before .before .before .before .before .before .before
     .before .before .before .before .before .before .before .before .before .before
     .before .before .before .before .before .before .before .before .before .before
     .before .before .before .before
 
-abbrev from-build-raw : tie.After-build-raw-arg18 → tie.After-mark
+abbrev from-build-raw : tie.After-build-raw-arg18 → tie.Start
 from-build-raw c =
     c .before .before .before .before .before .before .before .before .before .before
     .before .before .before .before .before .before .before .before .before .before
-
-abbrev from-mark : tie.After-mark-arg → tie.Start
-from-mark c =
-    c .before .before .before .before .before .before .before .before .before .before
     .before .before .before .before .before .before .before .before .before .before
     .before .before .before .before .before .before .before .before .before .before
     .before .before .before .before .before .before .before .before .before .before
+    .before .before .before .before .before .before .before
 
 abbrev at-built : tie.After-built → tie.After-built
 at-built c = from-end c
@@ -34,11 +30,8 @@ at-built c = from-end c
 abbrev at-build-raw : tie.After-built → tie.After-build-raw
 at-build-raw c = from-built (at-built c .before)
 
-abbrev at-mark : tie.After-built → tie.After-mark
-at-mark c = from-build-raw (at-build-raw c .before)
-
 abbrev start : tie.After-built → tie.Start
-start c = from-mark (at-mark c .before)
+start c = from-build-raw (at-build-raw c .before)
 
 -- Each column is as long as it was.
 
@@ -72,9 +65,7 @@ same-length-7 c = at-build-raw c .build-raw .kept .1 .1 .1 .1 .1 .1 .1 .1 .1 .1 
 
 -- short
 same-length-8 : tie.Need-same-length-8
-same-length-8 c =
-    at-build-raw c .build-raw .kept .1 .1 .1 .1 .1 .1 .1 .1 .1 .1 .1 .1 .1 .1 .1 .1 .1 .1 .1 .1 .1 .1 .1 .1 .1 .1 .1 .1 .1 .1 .1 .1 .1 .0
-    ∙ at-mark c .mark .kept .1 .0
+same-length-8 c = at-build-raw c .build-raw .kept .1 .1 .1 .1 .1 .1 .1 .1 .1 .1 .1 .1 .1 .1 .1 .1 .1 .1 .1 .1 .1 .1 .1 .1 .1 .1 .1 .1 .1 .1 .1 .1 .1 .0
 
 -- long_at
 same-length-9 : tie.Need-same-length-9
@@ -112,15 +103,13 @@ same-length-16 c = at-build-raw c .build-raw .kept .1 .1 .1 .1 .1 .1 .1 .1 .1 .1
 same-length-17 : tie.Need-same-length-17
 same-length-17 c = at-build-raw c .build-raw .kept .1 .1 .1 .1 .1 .1 .1 .1 .1 .1 .1 .1 .1 .1 .1 .1 .1 .1 .1 .1 .1 .1 .1 .1 .1 .1 .1 .1 .1 .1 .1 .1 .1 .1 .1 .1 .1 .1 .1 .1 .1 .1 .0
 
--- What a build leaves depends on how long the columns are, and not on what they held.
 returns : tie.Need-returns
-returns c = build-told (at-built c .built .ensures) (rw (at-mark c .mark .kept .1 .0) at (at-build-raw c .build-raw .ensures))
+returns c = build-told (at-built c .built .ensures) (at-build-raw c .build-raw .ensures)
 
 pub yokefathom-build-raw-spec : {M : Type 1} → statement M
 yokefathom-build-raw-spec =
     tie.close
     (tie.spec
-    (λ c κs. search needs)
     (λ c κs. search needs)
     (λ c κs. search needs)
     same-length
