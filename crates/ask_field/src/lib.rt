@@ -41,7 +41,17 @@ pub fn first_element(edge_codes: &[u16], start: usize, count: usize) -> Sought
     Sought::Nothing
 }
 
-// The first edge with a field's label. Elements are passed over, and a code says its field without a call; only an escape's row is looked for.
+// How many codes say a field by themselves: those of the fields, below the escape.
+pub fn plain_codes(fields: &[u32]) -> u16
+    ensures { λ r. ⌜ (r ≤ length (entry fields)) × (r ≤ 32767) × (r < length (entry fields) → r ≡ 32767) ⌝ }
+{
+    if fields.len() < ESCAPED as usize {
+        return fields.len() as u16;
+    }
+    ESCAPED
+}
+
+// The first edge with a field's label. Most codes say their field by one look into the fields, and elements are passed over; what is left is read.
 fn first_label(
     edge_codes: &[u16],
     start: usize,
@@ -54,13 +64,23 @@ fn first_label(
     requires { ⌜ (start + count ≤ length (now «edge_codes»)) × (label < ARRAY-ELEMENT) ⌝ }
     ensures { λ r. ⌜ r ≡ decoded (codedOf (entry «edge_codes») (entry fields) (entry «escape_at») (entry «escape_label»)) start count label ⌝ }
 {
+    let most = plain_codes(fields);
     let mut k = 0;
     while k < count {
         let edge = start + k;
         let code = edge_codes[edge];
-        if ELEMENT <= code {
+        if code < most {
+            let l = fields[code as usize];
+            if l == label {
+                return Sought::At(k);
+            }
+            if Label::ARRAY_ELEMENT <= l {
+                return Sought::Bad;
+            }
             k += 1;
-        } else if code == ESCAPED {
+        } else if ELEMENT <= code {
+            k += 1;
+        } else {
             let read = labels::read::coarse(edge_codes, edge, fields, escape_at, escape_label);
             match read {
                 EdgeLabel::Is(l) => {
@@ -73,18 +93,6 @@ fn first_label(
                     return Sought::Bad;
                 }
             }
-        } else {
-            if fields.len() <= code as usize {
-                return Sought::Bad;
-            }
-            let l = fields[code as usize];
-            if l == label {
-                return Sought::At(k);
-            }
-            if Label::ARRAY_ELEMENT <= l {
-                return Sought::Bad;
-            }
-            k += 1;
         }
     }
     Sought::Nothing

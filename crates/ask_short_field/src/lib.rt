@@ -1,7 +1,6 @@
 // The target of an object's field, and of its weak reference, by the short columns alone, as `ask_short` answers the other questions.
 use ask_field::Sought;
 use labels::code::ELEMENT;
-use labels::code::ESCAPED;
 use rules::Field;
 use rules::Label;
 use rules::Referent;
@@ -18,29 +17,27 @@ ghost use Rattle.ask_span.specs.Reading.{weakRowsOf};
 ghost use Rattle.ask_field.specs.Sought.{decoded, soughtIn, fieldFound, firstWeak, referentFound};
 ghost use Rattle.ask_short.specs.Lean.{plainOf, leanColumns, leanEdges};
 
-// The first edge with a field's label. Elements are passed over; an escape cannot be read here.
+// The first edge with a field's label, by one look into the fields. Elements are passed over; an escape cannot be read here.
 fn first_label(edge_codes: &[u16], start: usize, count: usize, fields: &[u32], label: u32) -> Sought
     requires { ⌜ (start + count ≤ length (now «edge_codes»)) × (label < ARRAY-ELEMENT) ⌝ }
     ensures { λ r. ⌜ r ≡ decoded (plainOf (entry «edge_codes») (entry fields)) start count label ⌝ }
 {
+    let most = ask_field::plain_codes(fields);
     let mut k = 0;
     while k < count {
         let edge = start + k;
         let code = edge_codes[edge];
-        if ELEMENT <= code {
-            k += 1;
-        } else {
-            if code == ESCAPED {
-                return Sought::Bad;
-            }
-            if fields.len() <= code as usize {
-                return Sought::Bad;
-            }
+        if code < most {
             let l = fields[code as usize];
             if l == label {
                 return Sought::At(k);
             }
             if Label::ARRAY_ELEMENT <= l {
+                return Sought::Bad;
+            }
+            k += 1;
+        } else {
+            if code < ELEMENT {
                 return Sought::Bad;
             }
             k += 1;

@@ -3,53 +3,54 @@ use Prim.Native.Nat.{_-_}
 use native.Mathlib.Omega.{arith}
 use Rattle.columns.proofs.First.{Searching, searching-start}
 use Rattle.ask_field.specs.Sought.{stops}
-use Rattle.ask_field.proofs.Placed.{decoded-more, decoded-hit, decoded-bad, decoded-end, element-says, past-says, field-says, no-field-says}
+use Rattle.ask_field.proofs.Placed.{decoded-more, decoded-hit, decoded-bad, decoded-end, element-says, field-says, no-field-says}
 use Rattle.ask_short.specs.Lean.{plainOf}
-use Rattle.ask_short_field.proofs.Plain.{escape-says}
+use Rattle.ask_short_field.proofs.Plain.{unread-says}
 use borrow.Author.Needs.{needs}
 use Rattle.ask_short_field.proofs.first_label.Statement.{statement}
 use Rattle.ask_short_field.proofs.first_label.Tie as tie
 
 abbrev Inv-loop : tie.InvT-loop
-Inv-loop codes start count fields label k₀ k = Searching (stops (plainOf codes fields) start label) count k
+Inv-loop codes start count fields label most k₀ k = Searching (stops (plainOf codes fields) start label) count k
 
 abbrev μ-loop : tie.MeasureT-loop
-μ-loop codes start count fields label k₀ k = count - k
+μ-loop codes start count fields label most k₀ k = count - k
 
 loop-holds : tie.Need-loop-holds Inv-loop μ-loop
 loop-holds c = searching-start _ _
 
--- an element
-loop-again : tie.Need-loop-again Inv-loop μ-loop
-loop-again c = decoded-more _ _ _ _ (c .before .before .before .loop .inv) (c .before .before .loop-test .taken) (element-says _ _ (c .if1 .taken)) (λ q. omega arith)
-
--- an escape
-returns : tie.Need-returns Inv-loop μ-loop
-returns c = decoded-bad _ _ _ _ (c .before .before .before .before .loop .inv) (c .before .before .before .loop-test .taken) (escape-says _ _ _ (c .if2 .taken))
-
 -- a field
+shared-slice-read-l : tie.Need-shared-slice-read-l Inv-loop μ-loop
+shared-slice-read-l c = omega (arith, c .before .before .before .before .before .plain-codes .ensures .0, c .before .if1 .taken)
+
+returns : tie.Need-returns Inv-loop μ-loop
+returns c =
+    let h = c .before .before in
+    let m = h .before .before .before .before .plain-codes .ensures in
+    decoded-hit _ _ _ _ (h .before .before .before .loop .inv) (h .before .before .loop-test .taken) (field-says _ _ (omega (arith, m .1, h .if1 .taken)) (λ q. omega (arith, m .1, h .if1 .taken)) (omega (arith, m .0, h .if1 .taken)) (omega arith)) (c .if2 .taken)
+
 returns-2 : tie.Need-returns-2 Inv-loop μ-loop
 returns-2 c =
-    let h = c .before in
-    decoded-bad _ _ _ _ (h .before .before .before .before .loop .inv) (h .before .before .before .loop-test .taken) (past-says _ _ (h .before .if1 .left) (h .if2 .left) (c .if3 .taken))
-
-returns-3 : tie.Need-returns-3 Inv-loop μ-loop
-returns-3 c =
     let h = c .before .before .before in
-    decoded-hit _ _ _ _ (h .before .before .before .before .loop .inv) (h .before .before .before .loop-test .taken) (field-says _ _ (h .before .if1 .left) (h .if2 .left) (c .before .before .if3 .left) (omega arith)) (c .if4 .taken)
+    let m = h .before .before .before .before .plain-codes .ensures in
+    decoded-bad _ _ _ _ (h .before .before .before .loop .inv) (h .before .before .loop-test .taken) (no-field-says _ _ (omega (arith, m .1, h .if1 .taken)) (λ q. omega (arith, m .1, h .if1 .taken)) (omega (arith, m .0, h .if1 .taken)) (c .if3 .taken))
+
+loop-again : tie.Need-loop-again Inv-loop μ-loop
+loop-again c =
+    let h = c .before .before .before in
+    let m = h .before .before .before .before .plain-codes .ensures in
+    decoded-more _ _ _ _ (h .before .before .before .loop .inv) (h .before .before .loop-test .taken) (field-says _ _ (omega (arith, m .1, h .if1 .taken)) (λ q. omega (arith, m .1, h .if1 .taken)) (omega (arith, m .0, h .if1 .taken)) (c .if3 .left)) (c .before .if2 .left)
+
+-- an escape, or a code without a field
+returns-3 : tie.Need-returns-3 Inv-loop μ-loop
+returns-3 c = decoded-bad _ _ _ _ (c .before .before .before .before .loop .inv) (c .before .before .before .loop-test .taken) (unread-says _ _ _ (c .before .before .before .before .before .plain-codes .ensures .2) (c .before .if1 .left) (c .if4 .taken))
+
+-- an element
+loop-again-2 : tie.Need-loop-again-2 Inv-loop μ-loop
+loop-again-2 c = decoded-more _ _ _ _ (c .before .before .before .before .loop .inv) (c .before .before .before .loop-test .taken) (element-says _ _ (c .if4 .left)) (λ q. omega arith)
 
 returns-4 : tie.Need-returns-4 Inv-loop μ-loop
-returns-4 c =
-    let h = c .before .before .before .before in
-    decoded-bad _ _ _ _ (h .before .before .before .before .loop .inv) (h .before .before .before .loop-test .taken) (no-field-says _ _ (h .before .if1 .left) (h .if2 .left) (c .before .before .before .if3 .left) (c .if5 .taken))
-
-loop-again-2 : tie.Need-loop-again-2 Inv-loop μ-loop
-loop-again-2 c =
-    let h = c .before .before .before .before in
-    decoded-more _ _ _ _ (h .before .before .before .before .loop .inv) (h .before .before .before .loop-test .taken) (field-says _ _ (h .before .if1 .left) (h .if2 .left) (c .before .before .before .if3 .left) (c .if5 .left)) (c .before .if4 .left)
-
-returns-5 : tie.Need-returns-5 Inv-loop μ-loop
-returns-5 c = decoded-end _ _ _ _ (c .before .loop .inv) (c .loop-test .left)
+returns-4 c = decoded-end _ _ _ _ (c .before .loop .inv) (c .loop-test .left)
 
 pub first-label-spec : {M : Type 1} → statement M
 first-label-spec =
@@ -57,22 +58,21 @@ first-label-spec =
     (tie.spec
     Inv-loop
     μ-loop
+    (λ c κs. search needs)
     loop-holds
     (λ c. search needs)
     (λ c. search needs)
     (λ c. search needs)
     (λ c. search needs)
     (λ c. search needs)
-    loop-again
+    shared-slice-read-l
     returns
-    (λ c. search needs)
     returns-2
     (λ c. search needs)
     (λ c. search needs)
-    (λ c. search needs)
+    loop-again
     returns-3
-    returns-4
     (λ c. search needs)
     (λ c. search needs)
     loop-again-2
-    returns-5)
+    returns-4)
