@@ -3,3 +3,4 @@ pub mod Fields
 pub mod Promises
 pub mod Nothing
 pub mod Built
+pub mod NameCount

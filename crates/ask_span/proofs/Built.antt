@@ -1,11 +1,12 @@
 -- On the columns of an accepted build, or of an accepted `from_parts`, each call's answer is the same question on the edges, and 12 is never given. Assumes nothing.
 use Prim.Native.Nat.{ℕ, suc, _-_, _^_, _<_}
 use native.Mathlib.Omega.{arith}
-use mathlib.Core.Path.{_≡_, ap, _∙_}
-use mathlib.Core.Bool.{false}
+use mathlib.Core.Path.{_≡_, refl, ap, _∙_}
+use mathlib.Core.Bool.{Bool, true, false, cond}
 use mathlib.Core.List.{List, [], _∷_, map}
-use lib.Dec.{eqb}
+use lib.Dec.{eqb, ltb}
 use lib.ListN.{length}
+use borrow.Author.Tests.{ltb-true}
 use Rattle.columns.specs.Lists.{_!_}
 use Rattle.columns.specs.Ranks.{rank}
 use Rattle.rules.specs.Input.{Input, Schema, objectCount}
@@ -24,6 +25,14 @@ use Rattle.ask_span.proofs.Spans.{span-promised, count-promised, weak-p
 -- what is promised, of an answer that is not COLUMNS
 pub built : {o : ℕ} {says answer plain : List ℕ} → Promised o says answer → answer ≡ plain → eqb (plain ! 0) 12 ≡ false → says ≡ plain
 built p e f = p .answered (ap (λ (a : List ℕ). eqb (a ! 0) 12) e ∙ f) ∙ e
+
+-- answers that are one where the object exists are one
+pub plainly-same : (n o : ℕ) (a b : List ℕ) → (o < n → a ≡ b) → plainly n o a ≡ plainly n o b
+plainly-same n o a b h = go (ltb o n) refl
+  where
+    go : (t : Bool) → ltb o n ≡ t → cond t a (11 ∷ o ∷ []) ≡ cond t b (11 ∷ o ∷ [])
+    go true e = h (ltb-true o n e)
+    go false e = refl
 
 -- The columns that a question about edges is lent: all but the weak pairs.
 abbrev pub strong : Columns → Columns

@@ -1,7 +1,7 @@
--- The first edge of a list by its place. Assumes nothing.
+-- The first edge of a list by its place, and where there is none. Assumes nothing.
 use Prim.Native.Nat.{ℕ, zero, suc, _<_}
 use native.Mathlib.Omega.{arith}
-use mathlib.Core.Path.{_≡_, refl, sym, ap₂, _∙_}
+use mathlib.Core.Path.{_≡_, refl, sym, ap, ap₂, _∙_}
 use mathlib.Core.Bool.{Bool, true, false, cond}
 use mathlib.Core.List.{List, [], _∷_, _++_}
 use mathlib.Core.Option.{Option, none, some}
@@ -10,6 +10,7 @@ use lib.ListN.{getD, length}
 use borrow.Author.Tests.{lt-ltb, le-ltb}
 use Rattle.columns.specs.Lists.{_!_, tab, places, firstPlace}
 use Rattle.columns.proofs.Lists.{places-below}
+use Rattle.columns.proofs.Every.{Every}
 use Rattle.rules.specs.Edges.{Edge}
 use Rattle.rules.specs.Questions.{firstEdge}
 
@@ -52,3 +53,8 @@ module _ (t : Edge → Bool) (g : ℕ → Edge) where
       go : (ks : List ℕ) → ((i : ℕ) → i < length ks → ks ! i < n) → head ks ≡ cond (ltb (getD ks 0 n) n) (some (g (getD ks 0 n))) none
       go [] h = rw (le-ltb n n (omega arith))
       go (k ∷ ks) h = rw (lt-ltb k n (h 0 (omega arith)))
+
+-- Where no edge passes there is no first one.
+pub none-passes : (t : Edge → Bool) (es : List Edge) → Every (λ (e : Edge). t e ≡ false) es → firstEdge t es ≡ none
+none-passes t [] h = refl
+none-passes t (e ∷ es) h = ap (λ (b : Bool). cond b (some e) (firstEdge t es)) (h .0) ∙ none-passes t es (h .1)

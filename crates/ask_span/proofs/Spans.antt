@@ -87,7 +87,7 @@ columns-only true false o values e = refl
 columns-only false u o values e = absurd (false≢true e)
 
 -- the rank of the next number is no smaller
-rank-next : (xs : List ℕ) (x : ℕ) → rank xs x ≤ rank xs (suc x)
+pub rank-next : (xs : List ℕ) (x : ℕ) → rank xs x ≤ rank xs (suc x)
 unfolding rank
 rank-next [] x = omega arith
 rank-next (a ∷ xs) x =

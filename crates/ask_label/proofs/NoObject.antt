@@ -1,0 +1,43 @@
+-- Asked a target that is no object, on the columns of an accepted build: `label_of` answers nothing. Assumes nothing.
+use Prim.Native.Nat.{ℕ, _+_, _≤_, _<_}
+use native.Mathlib.Omega.{arith}
+use mathlib.Core.Path.{_≡_, sym, ap, _∙_}
+use mathlib.Core.Bool.{false}
+use mathlib.Core.List.{List, [], _∷_}
+use lib.Dec.{eqb}
+use borrow.Author.Tests.{ne-eqb}
+use Rattle.columns.specs.Lists.{_!_}
+use Rattle.columns.proofs.Every.{every-tab}
+use Rattle.rules.specs.Input.{Input, objectCount}
+use Rattle.rules.specs.Edges.{Parts, Edge, edgesOf, graph}
+use Rattle.rules.specs.Needs.{objectsOf}
+use Rattle.rules.specs.Parts.{degree}
+use Rattle.rules.specs.Questions.{columnsOf, edgesAt, plainly, labelsOf, labelIn, labelOf}
+use Rattle.rules.proofs.Acceptance.{Passed}
+use Rattle.rules.proofs.Codes.{edge-in}
+use Rattle.rules.proofs.Laid.{build-meets, objects-are, edges-plain}
+use Rattle.rules.proofs.Meets.{Meets}
+use Rattle.ask_span.specs.Graph.{spanIn}
+use Rattle.ask_span.proofs.Built.{strong, plainly-same}
+use Rattle.ask_span.proofs.FirstEdge.{none-passes}
+use Rattle.ask_label.specs.Labelled.{Labelled}
+use Rattle.ask_label.proofs.Built.{label-built}
+
+-- No edge of columns that meet PARTS goes to what is no object.
+none-outside : (names : ℕ) (p : Parts) → Meets names p → (o t : ℕ) → o < objectsOf p → objectsOf p ≤ t → labelIn (edgesAt p o) t ≡ []
+unfolding labelIn edgesAt
+none-outside names p law o t l out =
+    ap labelsOf (none-passes (λ (e : Edge). eqb (e .target) t) (edgesAt p o)
+    (every-tab (λ (e : Edge). eqb (e .target) t ≡ false) _ (degree (p .offsets) o) (λ k m. ne-eqb (p .targets ! (p .offsets ! o + k)) t (differs k m))))
+  where
+    differs : (k : ℕ) → k < degree (p .offsets) o → p .targets ! (p .offsets ! o + k) ≡ t → ⊥
+    differs k m e = omega (arith, law .targets (p .offsets ! o + k) (omega (arith, edge-in names p law o k l m, law .counted)))
+
+-- "A target that is no object is not found": of every accepted build.
+pub label-outside-built : (x : Input) → Passed x → (o t : ℕ) → objectCount x ≤ t → {says : List ℕ}
+    → Labelled o (spanIn (strong (columnsOf (x .schema) (graph x))) o) says (labelOf (strong (columnsOf (x .schema) (graph x))) o t) → says ≡ plainly (objectCount x) o (0 ∷ [])
+label-outside-built x h o t out w =
+    label-built x h o t w
+    ∙ plainly-same (objectCount x) o (0 ∷ labelIn (edgesOf x o) t) (0 ∷ [])
+    (λ l. ap (λ (ls : List ℕ). 0 ∷ ls) (ap (λ (es : List Edge). labelIn es t) (sym (edges-plain x o l))
+    ∙ none-outside (x .schema .names) (graph x) (build-meets x h) o t (omega (arith, objects-are x)) (omega (arith, objects-are x))))

@@ -1,0 +1,142 @@
+-- On the columns of an accepted build the rows that `weak_referents` answers hold the object's weak targets as the input gives them, sorted. Assumes nothing.
+use Prim.Native.Nat.{ℕ, zero, suc, _≤_, _<_}
+use native.Mathlib.Omega.{arith}
+use native.Mathlib.Decide.{decLt}
+use mathlib.Core.Path.{_≡_, refl, sym, ap, ap₂, _∙_}
+use mathlib.Core.Logic.{_⊎_, inl, inr}
+use mathlib.Core.Bool.{Bool, true, false, cond, false≢true, _||_, _&&_}
+use mathlib.Core.List.{List, [], _∷_, _++_, append-nil}
+use lib.Dec.{eqb, leb, ltb}
+use lib.ListN.{length}
+use borrow.Author.Tests.{lt-ltb, le-ltb, le-leb, leb-false, eq-eqb, ne-eqb, eqb-true, eqb-false}
+use Rattle.columns.specs.Lists.{collect, insert, sort}
+use Rattle.columns.specs.Ranks.{rank}
+use Rattle.columns.proofs.Lists.{lt-or-ge}
+use Rattle.columns.proofs.Every.{Chain, sort-chain}
+use Rattle.rules.specs.Input.{Input, objectCount}
+use Rattle.rules.specs.Edges.{Pair, pairLe, pairsOf, weakPairs, weakTargets, graph}
+use Rattle.rules.specs.Questions.{Columns, columnsOf, weakRead}
+use Rattle.rules.proofs.Acceptance.{Passed}
+use Rattle.rules.proofs.Finished.{weak-rows}
+use Rattle.rules.proofs.Weak.{mine, mine-append, mine-own, pair-climbs}
+use Rattle.ask_span.specs.Reading.{spanPart, weakRowsOf}
+use Rattle.ask_span.proofs.Spans.{rank-next, part-is, weak-inside}
+use Rattle.ask_span.proofs.Built.{weak-built}
+
+-- How two pairs compare, by their objects: a lower one, the same, a higher one.
+lower : (p q : Pair) → p .object < q .object → pairLe p q ≡ true
+lower p q l = ap (λ (b : Bool). b || (eqb (p .object) (q .object) && leb (p .target) (q .target))) (lt-ltb (p .object) (q .object) l)
+
+level : (p q : Pair) → p .object ≡ q .object → pairLe p q ≡ leb (p .target) (q .target)
+level p q e = ap₂ (λ (a b : Bool). a || (b && leb (p .target) (q .target))) (le-ltb (p .object) (q .object) (omega arith)) (eq-eqb (p .object) (q .object) e)
+
+higher : (p q : Pair) → q .object < p .object → pairLe p q ≡ false
+higher p q l = ap₂ (λ (a b : Bool). a || (b && leb (p .target) (q .target))) (le-ltb (p .object) (q .object) (omega arith)) (ne-eqb (p .object) (q .object) (λ e. omega arith))
+
+either : (p q : Pair) → pairLe p q ≡ false → pairLe q p ≡ true
+either p q f = go (lt-or-ge (q .object) (p .object)) (lt-or-ge (p .object) (q .object))
+  where
+    go : (q .object < p .object) ⊎ (p .object ≤ q .object) → (p .object < q .object) ⊎ (q .object ≤ p .object) → pairLe q p ≡ true
+    go (inl l) m = lower q p l
+    go (inr l) (inl m) = absurd (false≢true (sym f ∙ lower p q m))
+    go (inr l) (inr m) =
+        let same : p .object ≡ q .object = omega arith in
+        let less : q .target < p .target = leb-false (p .target) (q .target) (sym (level p q same) ∙ f) in
+        level q p (sym same) ∙ le-leb (q .target) (p .target) (omega arith)
+
+chain-rest : (q : Pair) (ps : List Pair) → Chain pairLe (q ∷ ps) → Chain pairLe ps
+chain-rest q [] h = tt
+chain-rest q (r ∷ ps) h = h .1
+
+-- Of sorted pairs those of one object are sorted by target.
+module _ (o : ℕ) where
+  -- the targets of o's pairs, with one pair before them
+  abbrev before : Pair → List ℕ → List ℕ
+  before p ws = cond (eqb (p .object) o) (p .target ∷ ws) ws
+
+  hit : (p : Pair) (ws : List ℕ) → p .object ≡ o → before p ws ≡ p .target ∷ ws
+  hit p ws e = ap (λ (b : Bool). cond b (p .target ∷ ws) ws) (eq-eqb (p .object) o e)
+
+  miss : (p : Pair) (ws : List ℕ) → (p .object ≡ o → ⊥) → before p ws ≡ ws
+  miss p ws d = ap (λ (b : Bool). cond b (p .target ∷ ws) ws) (ne-eqb (p .object) o d)
+
+  -- from a pair of a later object on there is none of o's
+  later : (q : Pair) (ps : List Pair) → o < q .object → Chain pairLe (q ∷ ps) → mine o (q ∷ ps) ≡ []
+  later q [] l h = miss q [] (λ e. omega arith)
+  later q (r ∷ ps) l h = miss q (mine o (r ∷ ps)) (λ e. omega arith) ∙ later r ps (omega (arith, pair-climbs q r (h .0))) (h .1)
+
+  insert-other : (p : Pair) (ps : List Pair) → (p .object ≡ o → ⊥) → mine o (insert pairLe p ps) ≡ mine o ps
+  insert-other p [] d = miss p [] d
+  insert-other p (q ∷ ps) d = go (pairLe p q) (insert-other p ps d)
+    where
+      go : (b : Bool) → mine o (insert pairLe p ps) ≡ mine o ps → mine o (cond b (p ∷ q ∷ ps) (q ∷ insert pairLe p ps)) ≡ mine o (q ∷ ps)
+      go true ih = miss p (mine o (q ∷ ps)) d
+      go false ih = ap (before q) ih
+
+  insert-own : (p : Pair) (ps : List Pair) → p .object ≡ o → Chain pairLe ps → mine o (insert pairLe p ps) ≡ insert leb (p .target) (mine o ps)
+  insert-own p [] e h = hit p [] e
+  insert-own p (q ∷ ps) e h = go (lt-or-ge (q .object) o) (lt-or-ge o (q .object)) (insert-own p ps e (chain-rest q ps h))
+    where
+      put : {b : Bool} → pairLe p q ≡ b → mine o (cond (pairLe p q) (p ∷ q ∷ ps) (q ∷ insert pairLe p ps)) ≡ mine o (cond b (p ∷ q ∷ ps) (q ∷ insert pairLe p ps))
+      put r = ap (λ (b : Bool). mine o (cond b (p ∷ q ∷ ps) (q ∷ insert pairLe p ps))) r
+
+      beside : q .object ≡ o → mine o (insert pairLe p ps) ≡ insert leb (p .target) (mine o ps) → (b : Bool)
+          → mine o (cond b (p ∷ q ∷ ps) (q ∷ insert pairLe p ps)) ≡ cond b (p .target ∷ q .target ∷ mine o ps) (q .target ∷ insert leb (p .target) (mine o ps))
+      beside s ih true = hit p (mine o (q ∷ ps)) e ∙ ap (λ (ws : List ℕ). p .target ∷ ws) (hit q (mine o ps) s)
+      beside s ih false = hit q (mine o (insert pairLe p ps)) s ∙ ap (λ (ws : List ℕ). q .target ∷ ws) ih
+
+      go : (q .object < o) ⊎ (o ≤ q .object) → (o < q .object) ⊎ (q .object ≤ o) → mine o (insert pairLe p ps) ≡ insert leb (p .target) (mine o ps)
+          → mine o (cond (pairLe p q) (p ∷ q ∷ ps) (q ∷ insert pairLe p ps)) ≡ insert leb (p .target) (mine o (q ∷ ps))
+      go (inl l) m ih =
+          let d : q .object ≡ o → ⊥ = λ z. omega arith in
+          put (higher p q (omega arith)) ∙ miss q (mine o (insert pairLe p ps)) d ∙ ih ∙ sym (ap (insert leb (p .target)) (miss q (mine o ps) d))
+      go (inr l) (inl m) ih =
+          let none : mine o (q ∷ ps) ≡ [] = later q ps m h in
+          put (lower p q (omega arith)) ∙ hit p (mine o (q ∷ ps)) e ∙ ap (λ (ws : List ℕ). p .target ∷ ws) none ∙ sym (ap (insert leb (p .target)) none)
+      go (inr l) (inr m) ih =
+          let s : q .object ≡ o = omega arith in
+          put (level p q (omega arith)) ∙ beside s ih (leb (p .target) (q .target)) ∙ sym (ap (insert leb (p .target)) (hit q (mine o ps) s))
+
+  pub mine-sort : (ps : List Pair) → mine o (sort pairLe ps) ≡ sort leb (mine o ps)
+  mine-sort [] = refl
+  mine-sort (p ∷ ps) = go (eqb (p .object) o) refl (mine-sort ps)
+    where
+      go : (b : Bool) → eqb (p .object) o ≡ b → mine o (sort pairLe ps) ≡ sort leb (mine o ps)
+          → mine o (insert pairLe p (sort pairLe ps)) ≡ sort leb (cond b (p .target ∷ mine o ps) (mine o ps))
+      go true e ih = insert-own p (sort pairLe ps) (eqb-true (p .object) o e) (sort-chain pairLe either ps) ∙ ap (insert leb (p .target)) ih
+      go false e ih = insert-other p (sort pairLe ps) (eqb-false (p .object) o e) ∙ ih
+
+-- The pairs of the first n objects hold o's weak targets, where o is one of these.
+weak-among : (x : Input) (o n : ℕ) → mine o (collect (pairsOf x) n) ≡ cond (ltb o n) (weakTargets x o) []
+weak-among x o zero = ap (λ (b : Bool). cond b (weakTargets x o) []) (sym (le-ltb o 0 (omega arith)))
+weak-among x o (suc n) =
+    mine-append o (collect (pairsOf x) n) (pairsOf x n) ∙ ap₂ _++_ (weak-among x o n) (mine-own o n (weakTargets x n)) ∙ go (decLt o n) (decLt n o)
+  where
+    go : Dec (o < n) → Dec (n < o) → cond (ltb o n) (weakTargets x o) [] ++ cond (eqb n o) (weakTargets x n) [] ≡ cond (ltb o (suc n)) (weakTargets x o) []
+    go (yes l) m = rw (lt-ltb o n l, lt-ltb o (suc n) (omega arith), ne-eqb n o (λ e. omega arith)) (append-nil (weakTargets x o))
+    go (no l) (yes m) = rw (le-ltb o n (omega arith), le-ltb o (suc n) (omega arith), ne-eqb n o (λ e. omega arith))
+    go (no l) (no m) = let e : n ≡ o = omega arith in rw (le-ltb o n (omega arith), lt-ltb o (suc n) (omega arith), eq-eqb n o e) (ap (weakTargets x) e)
+
+module _ (x : Input) (h : Passed x) (o : ℕ) (l : o < objectCount x) where
+  abbrev c : Columns
+  c = columnsOf (x .schema) (graph x)
+
+  abbrev start : ℕ → ℕ
+  start i = rank (graph x .weakFrom) i
+
+  -- The rows of o's weak pairs hold its weak targets, sorted, repeats kept.
+  pub weak-rows-built : weakRead c o ≡ sort leb (weakTargets x o)
+  unfolding graph weakPairs
+  weak-rows-built =
+      weak-rows x h o ∙ mine-sort o (collect (pairsOf x) (objectCount x))
+      ∙ ap (sort leb) (weak-among x o (objectCount x) ∙ ap (λ (b : Bool). cond b (weakTargets x o) []) (lt-ltb o (objectCount x) l))
+
+  -- So does the part of the weak targets that the answer of `weak_referents` says.
+  pub weak-targets-built : spanPart (weakRowsOf (length (c .offsets .short)) (c .weakFrom) (c .weakTo) o) (c .weakTo) ≡ sort leb (weakTargets x o)
+  unfolding columnsOf weakRead
+  weak-targets-built =
+      let says : weakRowsOf (length (c .offsets .short)) (c .weakFrom) (c .weakTo) o ≡ 0 ∷ start o ∷ start (suc o) ∷ [] =
+      weak-built x h o ∙ ap (λ (b : Bool). cond b (0 ∷ start o ∷ start (suc o) ∷ []) (11 ∷ o ∷ [])) (lt-ltb o (objectCount x) l) in
+      ap (λ (s : List ℕ). spanPart s (c .weakTo)) says
+      ∙ part-is (c .weakTo) (start o) (start (suc o)) (rank-next (graph x .weakFrom) o) (weak-inside (length (c .offsets .short)) (c .weakFrom) (c .weakTo) o says)
+      ∙ weak-rows-built
