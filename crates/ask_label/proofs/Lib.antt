@@ -1,2 +1,3 @@
 pub mod Labels
+pub mod Late
 pub mod Built
