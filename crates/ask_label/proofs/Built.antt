@@ -13,9 +13,8 @@ use Rattle.rules.proofs.Asked.{coarse-plain, exact-plain, label-plain}
 use Rattle.rules.proofs.Finished.{coarse-asked, exact-asked, label-asked, never-12, never-12-edge}
 use Rattle.rules.proofs.Meets.{Meets}
 use Rattle.ask_span.proofs.Built.{built, strong}
-use Rattle.ask_span.specs.Graph.{spanIn}
-use Rattle.ask_label.specs.Labelled.{edgeAsked, coarseAt, Labelled}
-use Rattle.ask_label.proofs.Labels.{coarse-promised}
+use Rattle.ask_label.specs.Labelled.{coarseAt, ExactAt, LabelTo}
+use Rattle.ask_label.proofs.Labels.{coarse-promised, exact-promised, label-promised}
 
 -- Columns that meet PARTS, as `from_parts` codes them: each call's answer is the same question on the plain columns.
 module _ (s : Schema) (p : Parts) (law : Meets (s .names) p) (few : length (p .labels) < 2 ^ 64) (o : ℕ) where
@@ -24,13 +23,13 @@ module _ (s : Schema) (p : Parts) (law : Meets (s .names) p) (few : length (p .l
     unfolding coarseAt
     coarse-kept k = built (coarse-promised (columnsOf s p) o k) (coarse-plain s p law few wide o k) (never-12-edge (objectsOf p) o k coarse (edgesAt p o))
 
-    pub exact-kept : (k : ℕ) {says : List ℕ} → Labelled o (edgeAsked (spanIn (strong (columnsOf s p)) o) k) says (exactOf (strong (columnsOf s p)) o k) → says ≡ plainly (objectsOf p) o (exactIn (edgesAt p o) k)
+    pub exact-kept : (k : ℕ) {says : List ℕ} → ExactAt (strong (columnsOf s p)) o k says → says ≡ plainly (objectsOf p) o (exactIn (edgesAt p o) k)
     unfolding exactOf asked readsBack edgesRead
-    exact-kept k w = built (w .promised) (exact-plain s p law few wide o k) (never-12-edge (objectsOf p) o k (λ l. l) (edgesAt p o))
+    exact-kept k w = built (exact-promised (strong (columnsOf s p)) o k w) (exact-plain s p law few wide o k) (never-12-edge (objectsOf p) o k (λ l. l) (edgesAt p o))
 
-    pub label-kept : (t : ℕ) {says : List ℕ} → Labelled o (spanIn (strong (columnsOf s p)) o) says (labelOf (strong (columnsOf s p)) o t) → says ≡ plainly (objectsOf p) o (0 ∷ labelIn (edgesAt p o) t)
+    pub label-kept : (t : ℕ) {says : List ℕ} → LabelTo (strong (columnsOf s p)) o t says → says ≡ plainly (objectsOf p) o (0 ∷ labelIn (edgesAt p o) t)
     unfolding labelOf asked readsBack edgesRead
-    label-kept t w = built (w .promised) (label-plain s p law few wide o t) (never-12 (objectsOf p) o _)
+    label-kept t w = built (label-promised (strong (columnsOf s p)) o t w) (label-plain s p law few wide o t) (never-12 (objectsOf p) o _)
 
 -- The columns of an accepted build: the same question on the object's edges, as the input gives them.
 module _ (x : Input) (h : Passed x) (o : ℕ) where
@@ -38,10 +37,10 @@ module _ (x : Input) (h : Passed x) (o : ℕ) where
   unfolding coarseAt
   coarse-built k = built (coarse-promised (columnsOf (x .schema) (graph x)) o k) (coarse-asked x h o k) (never-12-edge (objectCount x) o k coarse (edgesOf x o))
 
-  pub exact-built : (k : ℕ) {says : List ℕ} → Labelled o (edgeAsked (spanIn (strong (columnsOf (x .schema) (graph x))) o) k) says (exactOf (strong (columnsOf (x .schema) (graph x))) o k) → says ≡ plainly (objectCount x) o (exactIn (edgesOf x o) k)
+  pub exact-built : (k : ℕ) {says : List ℕ} → ExactAt (strong (columnsOf (x .schema) (graph x))) o k says → says ≡ plainly (objectCount x) o (exactIn (edgesOf x o) k)
   unfolding exactOf asked readsBack edgesRead
-  exact-built k w = built (w .promised) (exact-asked x h o k) (never-12-edge (objectCount x) o k (λ l. l) (edgesOf x o))
+  exact-built k w = built (exact-promised (strong (columnsOf (x .schema) (graph x))) o k w) (exact-asked x h o k) (never-12-edge (objectCount x) o k (λ l. l) (edgesOf x o))
 
-  pub label-built : (t : ℕ) {says : List ℕ} → Labelled o (spanIn (strong (columnsOf (x .schema) (graph x))) o) says (labelOf (strong (columnsOf (x .schema) (graph x))) o t) → says ≡ plainly (objectCount x) o (0 ∷ labelIn (edgesOf x o) t)
+  pub label-built : (t : ℕ) {says : List ℕ} → LabelTo (strong (columnsOf (x .schema) (graph x))) o t says → says ≡ plainly (objectCount x) o (0 ∷ labelIn (edgesOf x o) t)
   unfolding labelOf asked readsBack edgesRead
-  label-built t w = built (w .promised) (label-asked x h o t) (never-12 (objectCount x) o _)
+  label-built t w = built (label-promised (strong (columnsOf (x .schema) (graph x))) o t w) (label-asked x h o t) (never-12 (objectCount x) o _)

@@ -2,13 +2,16 @@
 use Prim.Native.Nat.{ℕ, suc, _+_, _-_, _≤_, _<_}
 use native.Mathlib.Omega.{arith}
 use mathlib.Core.Path.{_≡_, refl, sym, ap, _∙_}
+use mathlib.Core.Logic.{_⊎_, inl, inr, ⊎-elim}
 use mathlib.Core.Bool.{Bool, true, false, cond, false≢true}
 use mathlib.Core.List.{List, [], _∷_}
 use mathlib.Core.Option.{none, some}
 use borrow.Author.Tests.{lt-ltb, le-ltb, ltb-true, ltb-false}
 use lib.Dec.{ltb, eqb}
+use lib.ListN.{length}
 use Rattle.columns.specs.Lists.{_!_, firstPlace}
 use Rattle.columns.specs.Columns.{accepts}
+use Rattle.columns.proofs.Lists.{lt-or-ge, first-none}
 use Rattle.store.specs.Blocked.{Blocked}
 use Rattle.rules.specs.Edges.{Edge}
 use Rattle.rules.specs.Labels.{exactLabel}
@@ -19,7 +22,7 @@ use Rattle.labels.specs.Reading.{coarseBack, exactBack}
 use Rattle.labels.proofs.Back.{exact-back, coarse-back}
 use Rattle.ask_span.specs.Reading.{spanOf}
 use Rattle.ask_span.specs.Graph.{spanIn}
-use Rattle.ask_label.specs.Labelled.{edgeAsked, orColumns, labelled, coarseAt, goesTo, Labelled}
+use Rattle.ask_label.specs.Labelled.{edgeAsked, orColumns, labelled, coarseAt, goesTo, spanEdges, firstTo, Labelled, ExactAt, LabelTo}
 use Rattle.ask_span.proofs.Spans.{span-inside, asked-reads, span-read, span-none, span-columns}
 use Rattle.ask_span.proofs.FirstEdge.{first-edge}
 use Rattle.ask_span.proofs.Escapes.{escapes-rising, escapes-paired, edge-reads}
@@ -79,10 +82,6 @@ labelled-refused place ls o f = rw f
 no-index : (o : ℕ) (ls : List ℕ) → eqb (orColumns o ls ! 0) 11 ≡ false
 no-index o [] = refl
 no-index o (l ∷ ls) = refl
-
-labelled-exists : (place ls : List ℕ) (o : ℕ) → accepts place ≡ true → eqb (labelled place ls o ! 0) 11 ≡ false
-unfolding labelled
-labelled-exists place ls o t = ap (λ (b : Bool). eqb (cond b (orColumns o ls) place ! 0) 11) t ∙ no-index o ls
 
 columns-label : (o : ℕ) (ls : List ℕ) → eqb (orColumns o ls ! 0) 12 ≡ true → orColumns o ls ≡ 12 ∷ o ∷ []
 columns-label o [] e = refl
@@ -162,28 +161,90 @@ module _ (c : Columns) (o k : ℕ) where
   unfolding coarseAt coarseOf
   coarse-promised = at-promised c o k coarseFrom coarse (λ h l. coarse-read c o h k l)
 
--- The exact label, read by the edges before it: that is one way to meet the contract.
+-- whether an answer has a number
+number : (says : List ℕ) (p : ℕ) {values : List ℕ} → says ≡ values → eqb (says ! 0) p ≡ eqb (values ! 0) p
+number says p e = ap (λ (s : List ℕ). eqb (s ! 0) p) e
+
+-- An edge that exists, by its label read forward and its label read from the nearest escape: reading forward is one way to meet the contract.
+module _ (o : ℕ) where
+  two-numbers : (ls : List ℕ) → length (orColumns o ls) ≡ 2
+  two-numbers [] = refl
+  two-numbers (l ∷ ls) = refl
+
+  forward-met : (forward late : List ℕ) {says : List ℕ} → says ≡ orColumns o forward → Labelled o forward late says
+  forward-met forward late s = record { read = λ l ls e. s ∙ ap (orColumns o) e; unread = λ e. inl (s ∙ ap (orColumns o) e) }
+
+  -- whichever way: the forward answer where that is no COLUMNS; COLUMNS at the object only; never INDEX, and never nothing
+  met-forward : (forward late : List ℕ) {says : List ℕ} → Labelled o forward late says → eqb (orColumns o forward ! 0) 12 ≡ false → says ≡ orColumns o forward
+  met-forward [] late w f = absurd (false≢true (sym f))
+  met-forward (l ∷ ls) late w f = w .read l ls refl
+
+  met-columns : (forward late : List ℕ) {says : List ℕ} → Labelled o forward late says → eqb (says ! 0) 12 ≡ true → says ≡ 12 ∷ o ∷ []
+  met-columns [] late {says} w h = ⊎-elim (λ e. e) (λ e. e ∙ columns-label o late (sym (number says 12 e) ∙ h)) (w .unread refl)
+  met-columns (l ∷ ls) late {says} w h = absurd (false≢true (sym (number says 12 (w .read l ls refl)) ∙ h))
+
+  met-exists : (forward late : List ℕ) {says : List ℕ} → Labelled o forward late says → eqb (says ! 0) 11 ≡ false
+  met-exists [] late {says} w = ⊎-elim (λ e. number says 11 e) (λ e. number says 11 e ∙ no-index o late) (w .unread refl)
+  met-exists (l ∷ ls) late {says} w = number says 11 (w .read l ls refl)
+
+  met-two : (forward late : List ℕ) {says : List ℕ} → Labelled o forward late says → length says ≡ 2
+  met-two [] late w = ⊎-elim (λ e. ap length e) (λ e. ap length e ∙ two-numbers late) (w .unread refl)
+  met-two (l ∷ ls) late w = ap length (w .read l ls refl)
+
+-- so it keeps the promise that the forward answer keeps
+met-promised : {o : ℕ} {says forward answer : List ℕ} → Promised o forward answer → (eqb (forward ! 0) 12 ≡ false → says ≡ forward)
+    → (eqb (says ! 0) 12 ≡ true → says ≡ 12 ∷ o ∷ []) → Promised o says answer
+met-promised {o} {says} {forward} {answer} p same only = record {
+  answered = λ f. let e : forward ≡ answer = p .answered f in same (number forward 12 e ∙ f) ∙ e;
+  columns = only;
+}
+
+-- The exact label of edge k.
 module _ (c : Columns) (o k : ℕ) where
   abbrev exactFrom : ℕ → List ℕ
   exactFrom e = exactBack (c .labels) e k
 
+  abbrev edge : List ℕ
+  edge = edgeAsked (spanIn c o) k
+
   abbrev exactAt : List ℕ
-  exactAt = labelled (edgeAsked (spanIn c o) k) (exactFrom (spanIn c o ! 1)) o
+  exactAt = labelled edge (exactFrom (spanIn c o ! 1)) o
 
-  exact-labelled : Labelled o (edgeAsked (spanIn c o) k) exactAt (exactOf c o k)
+  pub exact-is : {a b : ℕ} {says ls : List ℕ} → edgeAsked (spanIn c o) k ≡ 0 ∷ a ∷ b ∷ [] → ls ≡ exactBack (c .labels) a k → says ≡ orColumns o ls → ExactAt c o k says
+  unfolding accepts
+  exact-is {a} {b} {says} {ls} e r s =
+      let start : spanIn c o ! 1 ≡ a = ap (λ (xs : List ℕ). xs ! 1) (held (spanIn c o) k e .0) in
+      record {
+        refused = λ f. absurd (false≢true (sym f ∙ ap accepts e));
+        exists = λ t. forward-met o _ _ (s ∙ ap (orColumns o) (r ∙ ap exactFrom (sym start)));
+      }
+
+  pub exact-refused : {says : List ℕ} → says ≡ edgeAsked (spanIn c o) k → accepts says ≡ false → ExactAt c o k says
+  exact-refused {says} e f = record { refused = λ g. e; exists = λ t. absurd (false≢true (sym f ∙ ap accepts e ∙ t)) }
+
+  -- the forward answer where that is no COLUMNS, and COLUMNS at the object only
+  pub exact-forward : {says : List ℕ} → ExactAt c o k says → eqb (exactAt ! 0) 12 ≡ false → says ≡ exactAt
+  unfolding labelled
+  exact-forward {says} w = go (accepts edge) refl
+    where
+      go : (b : Bool) → accepts edge ≡ b → eqb (cond b (orColumns o (exactFrom (spanIn c o ! 1))) edge ! 0) 12 ≡ false → says ≡ cond b (orColumns o (exactFrom (spanIn c o ! 1))) edge
+      go true t f = met-forward o _ _ (w .exists t) f
+      go false t f = w .refused t
+
+  exact-columns : {says : List ℕ} → ExactAt c o k says → eqb (says ! 0) 12 ≡ true → says ≡ 12 ∷ o ∷ []
+  exact-columns {says} w h = go (accepts edge) refl
+    where
+      go : (b : Bool) → accepts edge ≡ b → says ≡ 12 ∷ o ∷ []
+      go true t = met-columns o _ _ (w .exists t) h
+      go false t = w .refused t ∙ edge-columns (spanIn c o) k o (span-columns c o) (sym (number says 12 (w .refused t)) ∙ h)
+
+  -- `exact_label` keeps the promise over any columns, and gives no INDEX of an edge that exists.
+  pub exact-promised : {says : List ℕ} → ExactAt c o k says → Promised o says (exactOf c o k)
   unfolding exactOf
-  exact-labelled = record {
-    refused = λ f. labelled-refused (edgeAsked (spanIn c o) k) (exactFrom (spanIn c o ! 1)) o f;
-    exists = λ t. labelled-exists (edgeAsked (spanIn c o) k) (exactFrom (spanIn c o ! 1)) o t;
-    promised = at-promised c o k exactFrom (λ l. l) (λ h l. exact-read c o h k l);
-  }
+  exact-promised w = met-promised (at-promised c o k exactFrom (λ l. l) (λ h l. exact-read c o h k l)) (exact-forward w) (exact-columns w)
 
-  pub exact-is : {a b : ℕ} {says ls : List ℕ} → edgeAsked (spanIn c o) k ≡ 0 ∷ a ∷ b ∷ [] → ls ≡ exactBack (c .labels) a k → says ≡ orColumns o ls
-      → Labelled o (edgeAsked (spanIn c o) k) says (exactOf c o k)
-  exact-is {a} {b} {says} {ls} e r s = let z : says ≡ exactAt = read-is c o k exactFrom e r s in rw z exact-labelled
-
-  pub exact-refused : {says : List ℕ} → says ≡ edgeAsked (spanIn c o) k → accepts says ≡ false → Labelled o (edgeAsked (spanIn c o) k) says (exactOf c o k)
-  exact-refused {says} e f = let z : says ≡ exactAt = refused-is c o k exactFrom e f in rw z exact-labelled
+  pub exact-exists : {says : List ℕ} → ExactAt c o k says → accepts (edgeAsked (spanIn c o) k) ≡ true → eqb (says ! 0) 11 ≡ false
+  exact-exists w t = met-exists o _ _ (w .exists t)
 
 -- The exact label of the first edge to a target.
 module _ (c : Columns) (o t : ℕ) where
@@ -195,13 +256,6 @@ module _ (c : Columns) (o t : ℕ) where
 
   abbrev pub toward : List ℕ → List ℕ
   toward says = cond (accepts says) (labelFrom (says ! 1) (says ! 2 - says ! 1)) says
-
-  from-exists : (e n : ℕ) → eqb (labelFrom e n ! 0) 11 ≡ false
-  from-exists e n = go (ltb (first e n) n)
-    where
-      go : (b : Bool) → eqb (cond b (orColumns o (exactBack (c .labels) e (first e n))) (0 ∷ []) ! 0) 11 ≡ false
-      go true = no-index o (exactBack (c .labels) e (first e n))
-      go false = refl
 
   from-columns : (e n : ℕ) → eqb (labelFrom e n ! 0) 12 ≡ true → labelFrom e n ≡ 12 ∷ o ∷ []
   from-columns e n = go (ltb (first e n) n)
@@ -238,13 +292,25 @@ module _ (c : Columns) (o t : ℕ) where
   unfolding accepts
   toward-none l = ap toward (span-none c o l)
 
-  -- The answer that the first edge to the target gives keeps the promise.
-  pub toward-labelled : Labelled o (spanIn c o) (toward (spanIn c o)) (labelOf c o t)
+  toward-promised : Promised o (toward (spanIn c o)) (labelOf c o t)
   unfolding labelOf
-  toward-labelled = record {
-    refused = λ f. ap (λ (b : Bool). cond b (labelFrom (spanIn c o ! 1) (spanIn c o ! 2 - spanIn c o ! 1)) (spanIn c o)) f;
-    exists = λ f. ap (λ (b : Bool). eqb (cond b (labelFrom (spanIn c o ! 1) (spanIn c o ! 2 - spanIn c o ! 1)) (spanIn c o) ! 0) 11) f ∙ from-exists (spanIn c o ! 1) (spanIn c o ! 2 - spanIn c o ! 1);
-    promised = record { answered = asked-reads c o (readsBack c o) _ _ toward-read toward-none; columns = toward-columns (spanIn c o) (span-columns c o) };
+  toward-promised = record { answered = asked-reads c o (readsBack c o) _ _ toward-read toward-none; columns = toward-columns (spanIn c o) (span-columns c o) }
+
+  -- The answer that reading forward gives meets the contract.
+  toward-span : accepts (spanIn c o) ≡ true → toward (spanIn c o) ≡ labelFrom (spanIn c o ! 1) (spanEdges c o)
+  toward-span a = ap (λ (b : Bool). cond b (labelFrom (spanIn c o ! 1) (spanEdges c o)) (spanIn c o)) a
+
+  from-none : (e n : ℕ) → n ≤ first e n → labelFrom e n ≡ 0 ∷ []
+  from-none e n l = ap (λ (b : Bool). cond b (orColumns o (exactBack (c .labels) e (first e n))) (0 ∷ [])) (le-ltb (first e n) n l)
+
+  from-some : (e n : ℕ) → first e n < n → labelFrom e n ≡ orColumns o (exactBack (c .labels) e (first e n))
+  from-some e n l = ap (λ (b : Bool). cond b (orColumns o (exactBack (c .labels) e (first e n))) (0 ∷ [])) (lt-ltb (first e n) n l)
+
+  pub toward-met : LabelTo c o t (toward (spanIn c o))
+  toward-met = record {
+    refused = λ f. ap (λ (b : Bool). cond b (labelFrom (spanIn c o ! 1) (spanEdges c o)) (spanIn c o)) f;
+    nothing = λ a l. toward-span a ∙ from-none (spanIn c o ! 1) (spanEdges c o) l;
+    exists = λ a l. forward-met o _ _ (toward-span a ∙ from-some (spanIn c o ! 1) (spanEdges c o) l);
   }
 
   -- of an object whose edges are from a up to b, j being the first to the target
@@ -253,15 +319,52 @@ module _ (c : Columns) (o t : ℕ) where
     unfolding accepts
     toward-from = ap toward at-ab ∙ rw (← is)
 
-    pub nothing-to : b - a ≤ j → Labelled o (spanIn c o) (0 ∷ []) (labelOf c o t)
-    nothing-to l = let z : 0 ∷ [] ≡ toward (spanIn c o) = sym (toward-from ∙ rw (le-ltb j (b - a) l)) in rw z toward-labelled
+    pub nothing-to : b - a ≤ j → LabelTo c o t (0 ∷ [])
+    nothing-to l = let z : 0 ∷ [] ≡ toward (spanIn c o) = sym (toward-from ∙ rw (le-ltb j (b - a) l)) in rw z toward-met
 
-    pub label-to : {says ls : List ℕ} → j < b - a → ls ≡ exactBack (c .labels) a j → says ≡ orColumns o ls → Labelled o (spanIn c o) says (labelOf c o t)
+    pub label-to : {says ls : List ℕ} → j < b - a → ls ≡ exactBack (c .labels) a j → says ≡ orColumns o ls → LabelTo c o t says
     label-to {says} {ls} l r s =
         let z : says ≡ toward (spanIn c o) = s ∙ ap (orColumns o) r ∙ sym (toward-from ∙ rw (lt-ltb j (b - a) l)) in
-        rw z toward-labelled
+        rw z toward-met
 
-  pub refused-to : {says : List ℕ} → says ≡ spanIn c o → accepts says ≡ false → Labelled o (spanIn c o) says (labelOf c o t)
+  pub refused-to : {says : List ℕ} → says ≡ spanIn c o → accepts says ≡ false → LabelTo c o t says
   refused-to {says} e f =
-      let z : says ≡ toward (spanIn c o) = e ∙ sym (ap (λ (b : Bool). cond b (labelFrom (spanIn c o ! 1) (spanIn c o ! 2 - spanIn c o ! 1)) (spanIn c o)) (ap accepts (sym e) ∙ f)) in
-      rw z toward-labelled
+      let z : accepts (spanIn c o) ≡ false = ap accepts (sym e) ∙ f in
+      record { refused = λ g. e; nothing = λ a l. absurd (false≢true (sym z ∙ a)); exists = λ a l. absurd (false≢true (sym z ∙ a)) }
+
+  -- Whichever way: the forward answer where that is no COLUMNS, and COLUMNS at the object only.
+  pub label-forward : {says : List ℕ} → LabelTo c o t says → eqb (toward (spanIn c o) ! 0) 12 ≡ false → says ≡ toward (spanIn c o)
+  label-forward {says} w = go (accepts (spanIn c o)) refl (ltb (firstTo c o t) (spanEdges c o)) refl
+    where
+      labelled-to : List ℕ
+      labelled-to = orColumns o (exactBack (c .labels) (spanIn c o ! 1) (firstTo c o t))
+
+      go : (b : Bool) → accepts (spanIn c o) ≡ b → (u : Bool) → ltb (firstTo c o t) (spanEdges c o) ≡ u
+          → eqb (cond b (cond u labelled-to (0 ∷ [])) (spanIn c o) ! 0) 12 ≡ false → says ≡ cond b (cond u labelled-to (0 ∷ [])) (spanIn c o)
+      go true a true l f = met-forward o _ _ (w .exists a (ltb-true _ _ l)) f
+      go true a false l f = w .nothing a (ltb-false _ _ l)
+      go false a u l f = w .refused a
+
+  label-columns : {says : List ℕ} → LabelTo c o t says → eqb (says ! 0) 12 ≡ true → says ≡ 12 ∷ o ∷ []
+  label-columns {says} w h = go (accepts (spanIn c o)) refl (lt-or-ge (firstTo c o t) (spanEdges c o))
+    where
+      go : (b : Bool) → accepts (spanIn c o) ≡ b → (firstTo c o t < spanEdges c o) ⊎ (spanEdges c o ≤ firstTo c o t) → says ≡ 12 ∷ o ∷ []
+      go true a (inl l) = met-columns o _ _ (w .exists a l) h
+      go true a (inr l) = absurd (false≢true (sym (number says 12 (w .nothing a l)) ∙ h))
+      go false a m = w .refused a ∙ span-columns c o (sym (number says 12 (w .refused a)) ∙ h)
+
+  -- `label_of` keeps the promise over any columns, and gives no INDEX of an object that exists.
+  pub label-promised : {says : List ℕ} → LabelTo c o t says → Promised o says (labelOf c o t)
+  label-promised w = met-promised toward-promised (label-forward w) (label-columns w)
+
+  pub label-exists : {says : List ℕ} → LabelTo c o t says → accepts (spanIn c o) ≡ true → eqb (says ! 0) 11 ≡ false
+  label-exists {says} w a = ⊎-elim (λ l. met-exists o _ _ (w .exists a l)) (λ l. number says 11 (w .nothing a l)) (lt-or-ge (firstTo c o t) (spanEdges c o))
+
+  -- Nothing is answered only where no edge of the object goes to the target.
+  pub label-nothing : {says : List ℕ} → LabelTo c o t says → accepts (spanIn c o) ≡ true → says ≡ 0 ∷ [] → (k : ℕ) → k < spanEdges c o
+      → goesTo (c .targets) (spanIn c o ! 1) t k ≡ false
+  label-nothing {says} w a e k m = first-none (goesTo (c .targets) (spanIn c o ! 1) t) (spanEdges c o) k (past (lt-or-ge (firstTo c o t) (spanEdges c o))) m
+    where
+      past : (firstTo c o t < spanEdges c o) ⊎ (spanEdges c o ≤ firstTo c o t) → spanEdges c o ≤ firstTo c o t
+      past (inl l) = let z : _≡_ {A = ℕ} 2 1 = sym (met-two o _ _ (w .exists a l)) ∙ ap length e in absurd (omega arith)
+      past (inr l) = l

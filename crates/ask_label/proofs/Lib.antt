@@ -1,3 +1,4 @@
 pub mod Labels
+pub mod Late
 pub mod Built
 pub mod NoObject

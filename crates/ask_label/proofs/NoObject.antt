@@ -12,15 +12,14 @@ use Rattle.rules.specs.Input.{Input, objectCount}
 use Rattle.rules.specs.Edges.{Parts, Edge, edgesOf, graph}
 use Rattle.rules.specs.Needs.{objectsOf}
 use Rattle.rules.specs.Parts.{degree}
-use Rattle.rules.specs.Questions.{columnsOf, edgesAt, plainly, labelsOf, labelIn, labelOf}
+use Rattle.rules.specs.Questions.{columnsOf, edgesAt, plainly, labelsOf, labelIn}
 use Rattle.rules.proofs.Acceptance.{Passed}
 use Rattle.rules.proofs.Codes.{edge-in}
 use Rattle.rules.proofs.Laid.{build-meets, objects-are, edges-plain}
 use Rattle.rules.proofs.Meets.{Meets}
-use Rattle.ask_span.specs.Graph.{spanIn}
 use Rattle.ask_span.proofs.Built.{strong, plainly-same}
 use Rattle.ask_span.proofs.FirstEdge.{none-passes}
-use Rattle.ask_label.specs.Labelled.{Labelled}
+use Rattle.ask_label.specs.Labelled.{LabelTo}
 use Rattle.ask_label.proofs.Built.{label-built}
 
 -- No edge of columns that meet PARTS goes to what is no object.
@@ -35,7 +34,7 @@ none-outside names p law o t l out =
 
 -- "A target that is no object is not found": of every accepted build.
 pub label-outside-built : (x : Input) → Passed x → (o t : ℕ) → objectCount x ≤ t → {says : List ℕ}
-    → Labelled o (spanIn (strong (columnsOf (x .schema) (graph x))) o) says (labelOf (strong (columnsOf (x .schema) (graph x))) o t) → says ≡ plainly (objectCount x) o (0 ∷ [])
+    → LabelTo (strong (columnsOf (x .schema) (graph x))) o t says → says ≡ plainly (objectCount x) o (0 ∷ [])
 label-outside-built x h o t out w =
     label-built x h o t w
     ∙ plainly-same (objectCount x) o (0 ∷ labelIn (edgesOf x o) t) (0 ∷ [])

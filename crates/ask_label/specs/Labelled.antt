@@ -1,13 +1,15 @@
 -- What the questions about the labels of edges answer, from the columns that they read. Assumes nothing.
-use Prim.Native.Nat.{ℕ, _+_, _-_}
+use Prim.Native.Nat.{ℕ, zero, suc, _+_, _-_, _≤_, _<_}
 use mathlib.Core.Path.{_≡_}
+use mathlib.Core.Logic.{_⊎_}
 use mathlib.Core.Bool.{Bool, true, false, cond}
 use mathlib.Core.List.{List, [], _∷_}
 use lib.Dec.{eqb, ltb}
-use Rattle.columns.specs.Lists.{_!_}
+use Rattle.columns.specs.Lists.{_!_, firstPlace}
 use Rattle.columns.specs.Columns.{accepts}
-use Rattle.rules.specs.Questions.{Columns, Promised}
-use Rattle.labels.specs.Reading.{coarseBack}
+use Rattle.rules.specs.Labels.{Coded}
+use Rattle.rules.specs.Questions.{Columns}
+use Rattle.labels.specs.Reading.{coarseBack, exactBack}
 use Rattle.ask_span.specs.Graph.{spanIn}
 
 -- "A query's .. edge of an object does not exist": INDEX with the edge asked.
@@ -31,9 +33,41 @@ coarseAt c o k = labelled (edgeAsked (spanIn c o) k) (coarseBack (c .labels) (sp
 abbrev pub goesTo : List ℕ → ℕ → ℕ → ℕ → Bool
 goesTo ts e t k = eqb (ts ! (e + k)) t
 
--- What a call that reads an exact label promises on all columns: the refusal that the place asked has; else no INDEX; and the answer wherever that is not
--- COLUMNS. How the label is found is left open, so that it may be read from the object's first edge, or from the nearest escape.
-pub record Labelled (o : ℕ) (place says answer : List ℕ) : Type 0 where
-  pub refused : accepts place ≡ false → says ≡ place
-  pub exists : accepts place ≡ true → eqb (says ! 0) 11 ≡ false
-  pub promised : Promised o says answer
+-- Of the object whose edges begin at e: the nearest escaped element at or before edge k, or the first edge; and the label of edge k, read from there. An
+-- escape says its index by its row, so what stands before it need not be read.
+unfoldable pub nearest : Coded → ℕ → ℕ → ℕ
+nearest d e zero = 0
+nearest d e (suc k) = cond (eqb (d .codes ! (e + suc k)) 65535) (suc k) (nearest d e k)
+
+unfoldable pub lateBack : Coded → ℕ → ℕ → List ℕ
+lateBack d e k = exactBack d (e + nearest d e k) (k - nearest d e k)
+
+-- What is answered of an edge that exists, by its label read from the object's first edge and its label read from the nearest escape. Where the first way
+-- gives a label, that label. Where it gives none, COLUMNS at the object, or what the second way gives. That is the only room: M-106 reads late labels from
+-- the nearest escape, and no contract may change then. `late-met` says that the second way meets this contract.
+pub record Labelled (o : ℕ) (forward late says : List ℕ) : Type 0 where
+  pub read : (l : ℕ) (ls : List ℕ) → forward ≡ l ∷ ls → says ≡ 0 ∷ l ∷ []
+  pub unread : forward ≡ [] → (says ≡ 12 ∷ o ∷ []) ⊎ (says ≡ orColumns o late)
+
+-- the same of edge k of object o
+abbrev pub LabelledAt : Columns → ℕ → ℕ → List ℕ → Type 0
+LabelledAt c o k says = Labelled o (exactBack (c .labels) (spanIn c o ! 1) k) (lateBack (c .labels) (spanIn c o ! 1) k) says
+
+-- The exact label of edge k, on all columns: INDEX or COLUMNS where the edge's place is refused, else the label.
+pub record ExactAt (c : Columns) (o k : ℕ) (says : List ℕ) : Type 0 where
+  pub refused : accepts (edgeAsked (spanIn c o) k) ≡ false → says ≡ edgeAsked (spanIn c o) k
+  pub exists : accepts (edgeAsked (spanIn c o) k) ≡ true → LabelledAt c o k says
+
+-- how many edges object o has, and the first of them that goes to t, or their number where none does
+abbrev pub spanEdges : Columns → ℕ → ℕ
+spanEdges c o = spanIn c o ! 2 - spanIn c o ! 1
+
+abbrev pub firstTo : Columns → ℕ → ℕ → ℕ
+firstTo c o t = firstPlace (goesTo (c .targets) (spanIn c o ! 1) t) (spanEdges c o)
+
+-- "`label_of` gives the exact label of the first edge to a target", on all columns: the refusal of the span; nothing where no edge goes to the target; else
+-- the label.
+pub record LabelTo (c : Columns) (o t : ℕ) (says : List ℕ) : Type 0 where
+  pub refused : accepts (spanIn c o) ≡ false → says ≡ spanIn c o
+  pub nothing : accepts (spanIn c o) ≡ true → spanEdges c o ≤ firstTo c o t → says ≡ 0 ∷ []
+  pub exists : accepts (spanIn c o) ≡ true → firstTo c o t < spanEdges c o → LabelledAt c o (firstTo c o t) says

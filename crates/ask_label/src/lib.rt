@@ -11,10 +11,9 @@ ghost use lib.ListN.{length};
 ghost use Rattle.columns.specs.Loans.{entry};
 ghost use Rattle.columns.specs.Lists.{firstPlace};
 ghost use Rattle.rules.specs.Types.{spanSays, coarseSays, exactSays, labelOfSays};
-ghost use Rattle.rules.specs.Questions.{exactOf, labelOf};
 ghost use Rattle.labels.specs.Reading.{readSays};
-ghost use Rattle.ask_span.specs.Graph.{edgeColumns, spanIn};
-ghost use Rattle.ask_label.specs.Labelled.{edgeAsked, orColumns, coarseAt, goesTo, Labelled};
+ghost use Rattle.ask_span.specs.Graph.{edgeColumns};
+ghost use Rattle.ask_label.specs.Labelled.{edgeAsked, orColumns, coarseAt, goesTo, ExactAt, LabelTo};
 
 // The span of an object, where it has the edge asked; else INDEX with the edge.
 fn with_edge(at: Span, edge: usize) -> Span
@@ -122,7 +121,7 @@ pub fn exact_label(
 ) -> ExactLabel
     ensures { λ r. ⌜ (
         let graph = edgeColumns entry bases short «long_at» «long_value» «edge_codes» targets fields «escape_at» «escape_label» in
-        Labelled object (edgeAsked (spanIn graph object) edge) (exactSays r) (exactOf graph object edge)) ⌝ }
+        ExactAt graph object edge (exactSays r)) ⌝ }
 {
     let whole = ask_span::span(
         bases,
@@ -183,7 +182,7 @@ pub fn label_of(
 ) -> LabelOf
     ensures { λ r. ⌜ (
         let graph = edgeColumns entry bases short «long_at» «long_value» «edge_codes» targets fields «escape_at» «escape_label» in
-        Labelled object (spanIn graph object) (labelOfSays r) (labelOf graph object target)) ⌝ }
+        LabelTo graph object target (labelOfSays r)) ⌝ }
 {
     let at = ask_span::span(
         bases,

@@ -7,21 +7,20 @@ use lib.ListN.{length}
 use Rattle.columns.specs.Columns.{accepts}
 use Rattle.rules.specs.Input.{Input, objectCount}
 use Rattle.rules.specs.Edges.{edgesOf, offset, graph}
-use Rattle.rules.specs.Questions.{Columns, columnsOf, labelOf, plainly, labelIn}
+use Rattle.rules.specs.Questions.{Columns, columnsOf, plainly, labelIn}
 use Rattle.rules.proofs.Acceptance.{Passed}
 use Rattle.ask_span.specs.Reading.{spanOf}
-use Rattle.ask_span.specs.Graph.{spanIn}
-use Rattle.ask_label.specs.Labelled.{Labelled}
+use Rattle.ask_label.specs.Labelled.{LabelTo}
 use Rattle.ask_span.proofs.Built.{strong, span-built}
-use Rattle.ask_label.proofs.Labels.{toward-labelled}
+use Rattle.ask_label.proofs.Labels.{toward-met}
 use Rattle.ask_label.proofs.Built.{label-built}
 use Rattle.ask_short.specs.Lean.{labelFound}
 use Rattle.ask_short.proofs.Whole.{shortly, leanly, span-whole, label-whole}
 
 -- `labelFound` is one way to meet the contract of `label_of`.
-pub label-labelled : (c : Columns) (o t : ℕ) → Labelled o (spanIn c o) (labelFound c o t) (labelOf c o t)
+pub label-met : (c : Columns) (o t : ℕ) → LabelTo c o t (labelFound c o t)
 unfolding labelFound
-label-labelled c o t = toward-labelled c o t
+label-met c o t = toward-met c o t
 
 module _ (x : Input) (h : Passed x) (o : ℕ) where
   abbrev c : Columns
@@ -35,4 +34,4 @@ module _ (x : Input) (h : Passed x) (o : ℕ) where
   span-lean a = span-whole (c .offsets) (length (c .labels .codes)) (length (c .targets)) o a ∙ span-built x h o
 
   pub label-lean : (t : ℕ) → accepts (labelFound (leanly (strong c)) o t) ≡ true → labelFound (leanly (strong c)) o t ≡ plainly n o (0 ∷ labelIn (edgesOf x o) t)
-  label-lean t a = label-whole (strong c) o t a ∙ label-built x h o t (label-labelled (strong c) o t)
+  label-lean t a = label-whole (strong c) o t a ∙ label-built x h o t (label-met (strong c) o t)

@@ -6,6 +6,7 @@ use mathlib.Core.Bool.{Bool, true, false, cond, false≢true}
 use mathlib.Core.List.{List, [], _∷_}
 use lib.Dec.{eqb, ltb, leb}
 use lib.ListN.{length}
+use borrow.Author.Tests.{eqb-true}
 use Rattle.columns.specs.Lists.{_!_, allOf, firstPlace}
 use Rattle.columns.specs.Columns.{accepts}
 use Rattle.columns.specs.Ranks.{bisect}
@@ -17,7 +18,8 @@ use Rattle.rules.specs.Questions.{Columns}
 use Rattle.labels.specs.Reading.{rowBack, elementBack, fieldBack, codeBack, stepBack, nextOf, onward, nextBack, coarseBack, walkBack, exactBack}
 use Rattle.ask_span.specs.Reading.{ended, spanOf}
 use Rattle.ask_span.specs.Graph.{spanIn}
-use Rattle.ask_label.specs.Labelled.{goesTo, orColumns}
+use Rattle.ask_label.specs.Labelled.{goesTo, orColumns, LabelTo}
+use Rattle.ask_label.proofs.Labels.{label-forward}
 use Rattle.ask_short.specs.Lean.{shortOf, plainOf, plainBack, leanOf, labelFound}
 use Rattle.ask_short.proofs.Plain.{no-long, no-row, any-edge}
 
@@ -47,6 +49,10 @@ offset-whole b i h = go (ltb i (length (b .short))) (eqb (b .short ! i) 65535) h
 pub no-columns : (o : ℕ) → accepts (12 ∷ o ∷ []) ≡ false
 unfolding accepts
 no-columns o = refl
+
+pub accepted-12 : (s : List ℕ) → accepts s ≡ true → eqb (s ! 0) 12 ≡ false
+unfolding accepts
+accepted-12 s h = ap (λ (n : ℕ). eqb n 12) (eqb-true (s ! 0) 0 h)
 
 -- Where a span is accepted, both its offsets are.
 ended-reads : (first next : List ℕ) (codes targets o : ℕ) → accepts (ended first next codes targets o) ≡ true → (accepts first ≡ true) × (accepts next ≡ true)
@@ -179,3 +185,13 @@ module _ (c : Columns) (o t : ℕ) where
       go true e true q = is-read o (exactBack (plainCoded (c .labels)) (s ! 1) k) (exactBack (c .labels) (s ! 1) k) (λ y ys. exact-whole (c .labels) (s ! 1) k) q
       go true e false q = refl
       go false e u q = absurd (false≢true e)
+
+  -- So it is the answer of `ask_label::label_of`, whichever way that call reads a late label.
+  found-forward : {says : List ℕ} → LabelTo c o t says → eqb (labelFound c o t ! 0) 12 ≡ false → says ≡ labelFound c o t
+  unfolding labelFound
+  found-forward w f = label-forward c o t w f
+
+  pub label-called : {says : List ℕ} → LabelTo c o t says → accepts (labelFound (leanly c) o t) ≡ true → labelFound (leanly c) o t ≡ says
+  label-called w h =
+      let same : labelFound (leanly c) o t ≡ labelFound c o t = label-whole h in
+      same ∙ sym (found-forward w (accepted-12 (labelFound c o t) (ap accepts (sym same) ∙ h)))

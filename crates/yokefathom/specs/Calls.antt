@@ -3,17 +3,16 @@ use Prim.Native.Nat.{ℕ}
 use mathlib.Core.Path.{_≡_}
 use mathlib.Core.Bool.{Bool}
 use mathlib.Core.List.{List}
-use lib.ListN.{take, drop}
-use Rattle.columns.specs.Lists.{_!_}
 use Rattle.rules.specs.declared.ReferencePolicy.{ReferencePolicy}
+use Rattle.rules.specs.declared.ExactLabel.{ExactLabel}
+use Rattle.rules.specs.declared.LabelOf.{LabelOf}
+use Rattle.rules.specs.Types.{exactSays, labelOfSays}
 use Rattle.rules.specs.Built.{CodedLeft, BuildLeft, PartsLeft, SlotsLeft}
+use Rattle.rules.specs.Questions.{Columns}
 use Rattle.build_rooms.specs.Stages.{leftOf}
 use Rattle.from_parts.specs.Parts.{leftAs}
+use Rattle.ask_label.specs.Labelled.{ExactAt, LabelTo}
 use Rattle.answer_numbers.specs.Told.{told}
-
--- the answer's numbers among those that go out
-unfoldable pub heard : List ℕ → List ℕ
-heard answer = take (answer ! 0) (drop 1 answer)
 
 -- "policy (keep soft, keep weak)"
 abbrev pub policyOf : Bool → Bool → ReferencePolicy
@@ -35,3 +34,14 @@ pub record SlotsTold (left : SlotsLeft) (answer o l w : List ℕ) : Type 0 where
   pub offsets : o ≡ left .offsets
   pub labels : l ≡ left .labels
   pub weak : w ≡ left .weak
+
+-- An exact label, told: an answer that meets the contract of `exact_label`, as numbers; and likewise one of `label_of`.
+pub record ExactTold (c : Columns) (o k : ℕ) (answer : List ℕ) : Type 0 where
+  pub given : ExactLabel
+  pub told-as : answer ≡ told 4 (exactSays given)
+  pub meets : ExactAt c o k (exactSays given)
+
+pub record LabelTold (c : Columns) (o t : ℕ) (answer : List ℕ) : Type 0 where
+  pub given : LabelOf
+  pub told-as : answer ≡ told 4 (labelOfSays given)
+  pub meets : LabelTo c o t (labelOfSays given)

@@ -5,16 +5,15 @@ ghost use mathlib.Core.List.{[], _∷_};
 ghost use lib.ListN.{length};
 ghost use Rattle.columns.specs.Loans.{entry, exit};
 ghost use Rattle.rules.specs.Tables.{offsetColumns};
-ghost use Rattle.rules.specs.Questions.{exactOf, labelOf};
 ghost use Rattle.ask_span.specs.Reading.{spanOf, countOf, weakRowsOf};
-ghost use Rattle.ask_span.specs.Graph.{graphColumns, edgeColumns, spanIn};
-ghost use Rattle.ask_label.specs.Labelled.{edgeAsked, coarseAt, Labelled};
+ghost use Rattle.ask_span.specs.Graph.{graphColumns, edgeColumns};
+ghost use Rattle.ask_label.specs.Labelled.{coarseAt};
 ghost use Rattle.ask_field.specs.Sought.{fieldFound, referentFound};
 ghost use Rattle.ask_short.specs.Lean.{shortOf, leanColumns, leanEdges, plainBack, labelFound};
 ghost use Rattle.ask_edges.specs.Read.{edgeNext};
 ghost use Rattle.answer_numbers.specs.Told.{told};
 ghost use Rattle.answer_replies.specs.Reply.{spanNumber, replyOf, labelNext};
-ghost use Rattle.yokefathom.specs.Calls.{heard};
+ghost use Rattle.yokefathom.specs.Calls.{ExactTold, LabelTold};
 
 // Where the edges of an object sit in the target column.
 #[no_mangle]
@@ -141,7 +140,7 @@ pub extern "C" fn yokefathom_exact_label(
 )
     ensures { λ _. ⌜ (
         let graph = edgeColumns entry bases short «long_at» «long_value» «edge_codes» targets fields «escape_at» «escape_label» in
-        (exit answer ≡ told 4 (heard (exit answer))) × Labelled object (edgeAsked (spanIn graph object) edge) (heard (exit answer)) (exactOf graph object edge)) ⌝ }
+        ExactTold graph object edge (exit answer)) ⌝ }
 {
     let found = ask_label::exact_label(
         bases,
@@ -178,7 +177,7 @@ pub extern "C" fn yokefathom_label_of(
 )
     ensures { λ _. ⌜ (
         let graph = edgeColumns entry bases short «long_at» «long_value» «edge_codes» targets fields «escape_at» «escape_label» in
-        (exit answer ≡ told 4 (heard (exit answer))) × Labelled object (spanIn graph object) (heard (exit answer)) (labelOf graph object target)) ⌝ }
+        LabelTold graph object target (exit answer)) ⌝ }
 {
     let found = ask_label::label_of(
         bases,
