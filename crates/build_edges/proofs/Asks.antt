@@ -2,19 +2,16 @@
 use Prim.Native.Nat.{ℕ, _+_, _^_, _≤_, _<_}
 use native.Mathlib.Omega.{arith}
 use mathlib.Core.Path.{_≡_, refl, sym, ap, subst}
-use mathlib.Core.Bool.{Bool, true, false, cond}
+use mathlib.Core.Bool.{true}
 use mathlib.Core.List.{List}
-use lib.Dec.{ltb}
-use lib.ListN.{length, length-replicate}
-use Rattle.columns.specs.Lists.{tab}
-use Rattle.columns.specs.Columns.{zeros, accepts}
-use Rattle.columns.proofs.Lists.{tab-length}
+use lib.ListN.{length}
+use Rattle.columns.specs.Columns.{accepts}
 use Rattle.rules.specs.Input.{Input, Copied, Raw, Route, Route.copied, Route.raw, objectCount, classCount}
 use Rattle.rules.specs.Verdict.{checkSays}
 use Rattle.rules.proofs.Acceptance.{check-passed, objects-few, ids-rise, root-in, Sound, classes-few, slot-rows-few}
 use Rattle.rules.proofs.Even.{objects-even, copied-even, raw-even, input-even}
-use Rattle.check_tables.specs.Found.{marks, marksIf, markAt}
 use Rattle.check_input.specs.Flat.{marksLeft}
+use Rattle.check_input.proofs.Theorems.{marks-long}
 use Rattle.need_roots.specs.Roots.{Below, ClassMarks}
 use Rattle.need_weak.specs.Pairs.{ObjectsIn}
 use Rattle.need_weak.proofs.Theorems.{slots-weak}
@@ -25,15 +22,6 @@ use Rattle.build_edges.proofs.Half.{mark-told, mark-is, mark-most}
 
 slots-all : (x : Input) → Sound x → length (x .schema .slots .weak) ≤ 268435456
 slots-all x h = omega (arith, input-even x (h .lengths) .slot-weak, slot-rows-few x h)
-
-marks-long : (x : Input) (m : ℕ) → length (marksLeft x m) ≡ m
-unfolding marksLeft marksIf marks
-marks-long x m = go (accepts (checkSays x)) (ltb (objectCount x) m)
-  where
-    go : (a b : Bool) → length (cond a (cond b (tab (markAt x (classCount (x .schema))) m) (zeros m)) (zeros m)) ≡ m
-    go true true = tab-length (markAt x (classCount (x .schema))) m
-    go true false = length-replicate m 0
-    go false b = length-replicate m 0
 
 module _ (x : Input) (ok : accepts (checkSays x) ≡ true) where
   abbrev h : Sound x

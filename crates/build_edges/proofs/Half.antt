@@ -25,7 +25,7 @@ use Rattle.rules.specs.Verdict.{firstOf, faults, checkSays, at, plainCounts}
 use Rattle.rules.proofs.Types.{refusal-refuses}
 use Rattle.rules.proofs.Acceptance.{check-passed, faults-refuse}
 use Rattle.check_tables.specs.Found.{marks, marksIf, markTo, markAt}
-use Rattle.check_input.specs.Flat.{Judged, Fitted, marksLeft}
+use Rattle.check_input.specs.Flat.{Marked, Fitted, marksLeft}
 use Rattle.need_roots.specs.Roots.{Collected}
 use Rattle.edge_append.specs.Object.{markClasses}
 use Rattle.edge_pass.specs.Stage.{Handed, Edged, edgesSaid}
@@ -88,9 +88,9 @@ pub record Tested (x : Input) (room m p : ℕ) (c : Checked) (w : List ℕ) : Ty
   pub marks : w ≡ marksLeft x m
 
 -- A check that counts the places tells just them.
-pub judged : {x : Input} (room : ℕ) {m : ℕ} {c : Checked} {w : List ℕ} → Judged x m c w → Tested x room m (placeCount x) c w
+pub marked : {x : Input} (room : ℕ) {m : ℕ} {c : Checked} {w : List ℕ} → Marked x m c w → Tested x room m (placeCount x) c w
 unfolding checkSays Fits
-judged room j = record { answer = j .answer; fits = λ ok. inl refl; marks = j .marks }
+marked room j = record { answer = j .answer; fits = λ ok. inl refl; marks = j .marks }
 
 pub fitted : {x : Input} {room m : ℕ} (a b : ℕ) {c : Checked} {w : List ℕ} (f : Fitted x room m c w) → room ≡ min a b → Tested x (min a b) m (f .told) c w
 fitted {x} a b f e = record { answer = f .answer; fits = λ ok. rw (← e) (f .fits); marks = f .marks }

@@ -361,7 +361,7 @@ pub fn lay_raw(
         (entry targets) (entry labels) (entry «weak_from») (entry «weak_to») (entry «roots_out») (entry working)
         (exit targets) (exit labels) (exit «weak_from») (exit «weak_to») (exit «roots_out») (exit working) (exit account)) ⌝ }
 {
-    let c = check_input::check_raw(
+    let c = check_input::fit_raw(
         ids,
         kinds,
         classes,

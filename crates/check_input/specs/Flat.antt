@@ -49,12 +49,17 @@ pub record PlacesCounted (tested : List ℕ) (room n : ℕ) (says : List ℕ) : 
   pub fits : Fits room n told
   pub answer : says ≡ countedSays tested n told
 
--- What a check leaves in a working column of m numbers: the marks of the classes that are found, after a refusal zeros.
+-- What a check leaves in a working column of m numbers where a build goes on: the marks of the classes that are found, after a refusal zeros.
 unfoldable pub marksLeft : Input → ℕ → List ℕ
 marksLeft x m = cond (accepts (checkSays x)) (marksIf x (classCount (x .schema)) m) (zeros m)
 
--- What `check_copied` and `check_raw` answer, r, and leave in the working column, w, that they are lent with m numbers.
+-- What `check_copied` and `check_raw` answer, r, and leave in the working column, w, that they are lent with m numbers: "all work space is zero".
 pub record Judged (x : Input) (m : ℕ) (r : Checked) (w : List ℕ) : Type 0 where
+  pub answer : checkedSays r ≡ checkSays x
+  pub working : w ≡ zeros m
+
+-- What `fit_raw` does: the same answer, and the marks are left.
+pub record Marked (x : Input) (m : ℕ) (r : Checked) (w : List ℕ) : Type 0 where
   pub answer : checkedSays r ≡ checkSays x
   pub marks : w ≡ marksLeft x m
 

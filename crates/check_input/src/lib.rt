@@ -2,7 +2,7 @@
 ghost use lib.ListN.{length};
 ghost use Rattle.columns.specs.Loans.{entry, exit};
 ghost use Rattle.rules.specs.Tables.{objectTable, classTable, slotTable, staticTable, copiedRoute, rawRoute, schemaOf, inputOf};
-ghost use Rattle.check_input.specs.Flat.{Judged, Fitted};
+ghost use Rattle.check_input.specs.Flat.{Judged, Marked, Fitted};
 use rules::Checked;
 use rules::ReferencePolicy;
 
@@ -103,76 +103,8 @@ pub fn fit_copied(
     answer
 }
 
-// The same, and how many places it has, as no room is lent.
-pub fn check_copied(
-    ids: &[u64],
-    kinds: &[u8],
-    classes: &[u32],
-    lengths: &[u32],
-    class_ids: &[u64],
-    loaders: &[u64],
-    dumped: &[u8],
-    class_kinds: &[u8],
-    slot_starts: &[u32],
-    slot_ends: &[u32],
-    static_starts: &[u32],
-    static_ends: &[u32],
-    slot_offsets: &[u32],
-    slot_labels: &[u32],
-    slot_weak: &[u8],
-    static_names: &[u32],
-    static_types: &[u8],
-    static_values: &[u64],
-    names: usize,
-    codes: &[u32],
-    escape_places: &[u64],
-    escape_ids: &[u64],
-    base: u64,
-    starts: &[u32],
-    roots: &[u32],
-    policy: ReferencePolicy,
-    working: &mut [u64],
-) -> Checked
-    ensures { λ r. ⌜ (
-        let schema = schemaOf (classTable entry «class_ids» loaders dumped «class_kinds» «slot_starts» «slot_ends» «static_starts» «static_ends»)
-        (slotTable entry «slot_offsets» «slot_labels» «slot_weak») (staticTable entry «static_names» «static_types» «static_values») names in
-        let input = inputOf (objectTable entry ids kinds classes lengths) schema (copiedRoute entry codes «escape_places» «escape_ids» base starts) (entry roots) policy in
-        Judged input (length (entry working)) r (exit working)) ⌝ }
-{
-    fit_copied(
-        ids,
-        kinds,
-        classes,
-        lengths,
-        class_ids,
-        loaders,
-        dumped,
-        class_kinds,
-        slot_starts,
-        slot_ends,
-        static_starts,
-        static_ends,
-        slot_offsets,
-        slot_labels,
-        slot_weak,
-        static_names,
-        static_types,
-        static_values,
-        names,
-        codes,
-        escape_places,
-        escape_ids,
-        base,
-        starts,
-        roots,
-        policy,
-        0,
-        working,
-    )
-}
-
-// The same on the raw route.
-pub fn check_raw(
+// The same on the raw route, and how many places it has: no room is asked for.
+pub fn fit_raw(
     ids: &[u64],
     kinds: &[u8],
     classes: &[u32],
@@ -204,7 +136,7 @@ pub fn check_raw(
         let schema = schemaOf (classTable entry «class_ids» loaders dumped «class_kinds» «slot_starts» «slot_ends» «static_starts» «static_ends»)
         (slotTable entry «slot_offsets» «slot_labels» «slot_weak») (staticTable entry «static_names» «static_types» «static_values») names in
         let input = inputOf (objectTable entry ids kinds classes lengths) schema (rawRoute entry bytes size starts bodies) (entry roots) policy in
-        Judged input (length (entry working)) r (exit working)) ⌝ }
+        Marked input (length (entry working)) r (exit working)) ⌝ }
 {
     columns::zero_u64(working, 0);
     let tested = judge::judge_raw(
@@ -251,5 +183,143 @@ pub fn check_raw(
         static_values,
     );
     check_whole::settle(check_whole::accepted(answer), working);
+    answer
+}
+
+// Whether an input of the copied route may be built, and how many places it has, as no room is lent. The working column, whatever it held, is left with
+// zeros.
+pub fn check_copied(
+    ids: &[u64],
+    kinds: &[u8],
+    classes: &[u32],
+    lengths: &[u32],
+    class_ids: &[u64],
+    loaders: &[u64],
+    dumped: &[u8],
+    class_kinds: &[u8],
+    slot_starts: &[u32],
+    slot_ends: &[u32],
+    static_starts: &[u32],
+    static_ends: &[u32],
+    slot_offsets: &[u32],
+    slot_labels: &[u32],
+    slot_weak: &[u8],
+    static_names: &[u32],
+    static_types: &[u8],
+    static_values: &[u64],
+    names: usize,
+    codes: &[u32],
+    escape_places: &[u64],
+    escape_ids: &[u64],
+    base: u64,
+    starts: &[u32],
+    roots: &[u32],
+    policy: ReferencePolicy,
+    working: &mut [u64],
+) -> Checked
+    ensures { λ r. ⌜ (
+        let schema = schemaOf (classTable entry «class_ids» loaders dumped «class_kinds» «slot_starts» «slot_ends» «static_starts» «static_ends»)
+        (slotTable entry «slot_offsets» «slot_labels» «slot_weak») (staticTable entry «static_names» «static_types» «static_values») names in
+        let input = inputOf (objectTable entry ids kinds classes lengths) schema (copiedRoute entry codes «escape_places» «escape_ids» base starts) (entry roots) policy in
+        Judged input (length (entry working)) r (exit working)) ⌝ }
+{
+    let answer = fit_copied(
+        ids,
+        kinds,
+        classes,
+        lengths,
+        class_ids,
+        loaders,
+        dumped,
+        class_kinds,
+        slot_starts,
+        slot_ends,
+        static_starts,
+        static_ends,
+        slot_offsets,
+        slot_labels,
+        slot_weak,
+        static_names,
+        static_types,
+        static_values,
+        names,
+        codes,
+        escape_places,
+        escape_ids,
+        base,
+        starts,
+        roots,
+        policy,
+        0,
+        working,
+    );
+    check_whole::clear(working);
+    answer
+}
+
+// The same on the raw route.
+pub fn check_raw(
+    ids: &[u64],
+    kinds: &[u8],
+    classes: &[u32],
+    lengths: &[u32],
+    class_ids: &[u64],
+    loaders: &[u64],
+    dumped: &[u8],
+    class_kinds: &[u8],
+    slot_starts: &[u32],
+    slot_ends: &[u32],
+    static_starts: &[u32],
+    static_ends: &[u32],
+    slot_offsets: &[u32],
+    slot_labels: &[u32],
+    slot_weak: &[u8],
+    static_names: &[u32],
+    static_types: &[u8],
+    static_values: &[u64],
+    names: usize,
+    bytes: &[u8],
+    size: usize,
+    starts: &[u64],
+    bodies: &[u32],
+    roots: &[u32],
+    policy: ReferencePolicy,
+    working: &mut [u64],
+) -> Checked
+    ensures { λ r. ⌜ (
+        let schema = schemaOf (classTable entry «class_ids» loaders dumped «class_kinds» «slot_starts» «slot_ends» «static_starts» «static_ends»)
+        (slotTable entry «slot_offsets» «slot_labels» «slot_weak») (staticTable entry «static_names» «static_types» «static_values») names in
+        let input = inputOf (objectTable entry ids kinds classes lengths) schema (rawRoute entry bytes size starts bodies) (entry roots) policy in
+        Judged input (length (entry working)) r (exit working)) ⌝ }
+{
+    let answer = fit_raw(
+        ids,
+        kinds,
+        classes,
+        lengths,
+        class_ids,
+        loaders,
+        dumped,
+        class_kinds,
+        slot_starts,
+        slot_ends,
+        static_starts,
+        static_ends,
+        slot_offsets,
+        slot_labels,
+        slot_weak,
+        static_names,
+        static_types,
+        static_values,
+        names,
+        bytes,
+        size,
+        starts,
+        bodies,
+        roots,
+        policy,
+        working,
+    );
+    check_whole::clear(working);
     answer
 }

@@ -51,3 +51,10 @@ pub fn settle(keep: bool, working: &mut [u64])
     }
     columns::zero_u64(working, 0);
 }
+
+// Nobody goes on with the marks: all work space is zero in the end.
+pub fn clear(working: &mut [u64])
+    ensures { λ _. ⌜ exit working ≡ zeros (length (entry working)) ⌝ }
+{
+    settle(false, working);
+}

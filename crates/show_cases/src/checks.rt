@@ -117,12 +117,12 @@ pub(crate) fn copied<'a>(
     halves: &'a [u32],
     words: &'a [u64],
     cuts: &'a [usize],
-    marked: bool,
+    shown: bool,
 ) {
     let mut working = arrays::named_u64();
     let c = check_copied(bytes, halves, words, cuts, &mut working);
     answer::checked(b"; copied: ", c);
-    if marked {
+    if shown {
         let n = of_u64(words, cuts, names::IDS).len();
         column::of_u64(b", working", used_u64(&working, used(n)));
     }

@@ -110,7 +110,7 @@ fn list(
 fn call<'a>(k: usize, bytes: &'a [u8], halves: &'a [u32], words: &'a [u64], cuts: &'a [usize]) {
     match k {
         names::COPIED => checks::copied(bytes, halves, words, cuts, false),
-        names::MARKS => checks::copied(bytes, halves, words, cuts, true),
+        names::WORKING => checks::copied(bytes, halves, words, cuts, true),
         names::RAW => checks::raw(bytes, halves, words, cuts),
         names::PARTS => checks::parts(bytes, halves, words, cuts),
         names::HAND => hand::lend(bytes, halves, words, cuts),

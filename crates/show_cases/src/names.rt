@@ -85,7 +85,7 @@ pub(crate) const COPIED: usize = 50;
 
 pub(crate) const RAW: usize = 51;
 
-pub(crate) const MARKS: usize = 52;
+pub(crate) const WORKING: usize = 52;
 
 pub(crate) const PARTS: usize = 53;
 
@@ -205,7 +205,7 @@ fn of_list(text: &[u8], at: usize, end: usize) -> usize {
 // The number of a word.
 pub(crate) fn number(text: &[u8], at: usize, end: usize) -> usize {
     let call = place(
-        b"copied raw marks parts hand columns rows keep ",
+        b"copied raw working parts hand columns rows keep ",
         text,
         at,
         end,

@@ -10,7 +10,7 @@ use Rattle.rules.specs.Places.{placeCount}
 use Rattle.rules.specs.Verdict.{checkSays}
 use Rattle.rules.specs.Tables.{objectTable, classTable, slotTable, staticTable, schemaOf, rawRoute, inputOf}
 use Rattle.need_weak.proofs.Theorems as Pairs
-use Rattle.build_edges.proofs.Half.{judged, Staged, handed, half}
+use Rattle.build_edges.proofs.Half.{marked, Staged, handed, half}
 use Rattle.build_edges.proofs.Asks.{raw-asked, roots-asked}
 use borrow.Author.Needs.{needs}
 use Rattle.build_edges.proofs.lay_raw.Statement.{statement}
@@ -37,12 +37,12 @@ abbrev from-roots-of : tie.After-roots-of-arg2 → tie.After-weak-raw
 from-roots-of c =
     c .before .before
 
-abbrev from-weak-raw : tie.After-slice-known7 → tie.After-check-raw
+abbrev from-weak-raw : tie.After-slice-known7 → tie.After-fit-raw
 from-weak-raw c =
     c .before .before
 
-abbrev from-check-raw : tie.After-check-raw-arg → tie.Start
-from-check-raw c =
+abbrev from-fit-raw : tie.After-fit-raw-arg → tie.Start
+from-fit-raw c =
     c .before .before .before .before .before .before .before .before .before .before
     .before .before .before .before .before .before .before .before .before .before
     .before .before .before .before .before .before .before .before .before .before
@@ -62,11 +62,11 @@ at-roots-of c = from-first-rooms (at-first-rooms c .before)
 abbrev at-weak-raw : tie.After-slice-known14 → tie.After-weak-raw
 at-weak-raw c = from-roots-of (at-roots-of c .before)
 
-abbrev at-check-raw : tie.After-slice-known14 → tie.After-check-raw
-at-check-raw c = from-weak-raw (at-weak-raw c .before)
+abbrev at-fit-raw : tie.After-slice-known14 → tie.After-fit-raw
+at-fit-raw c = from-weak-raw (at-weak-raw c .before)
 
 abbrev start : tie.After-slice-known14 → tie.Start
-start c = from-check-raw (at-check-raw c .before)
+start c = from-fit-raw (at-fit-raw c .before)
 
 -- Each column is as long as it was.
 
@@ -95,7 +95,7 @@ same-length-6 : tie.Need-same-length-6
 same-length-6 c =
     at-edges-raw c .edges-raw .kept .1 .1 .1 .1 .1 .1 .1 .1 .1 .1 .1 .1 .1 .1 .1 .1 .1 .1 .1 .1 .1 .1 .1 .1 .1 .1 .1 .0
     ∙ at-roots-of c .roots-of .kept .1 .1 .1 .1 .0
-    ∙ at-check-raw c .check-raw .kept .1 .1 .1 .1 .1 .1 .1 .1 .1 .1 .1 .1 .1 .1 .1 .1 .1 .1 .1 .1 .1 .1 .1 .1 .1 .0
+    ∙ at-fit-raw c .fit-raw .kept .1 .1 .1 .1 .1 .1 .1 .1 .1 .1 .1 .1 .1 .1 .1 .1 .1 .1 .1 .1 .1 .1 .1 .1 .1 .0
 
 -- the input that the call began with
 abbrev input : tie.Start → Input
@@ -113,11 +113,11 @@ input s =
     (a .policy)
 
 -- behind the checks
-abbrev begun : tie.After-check-raw → tie.Start
-begun f = from-check-raw (f .before)
+abbrev begun : tie.After-fit-raw → tie.Start
+begun f = from-fit-raw (f .before)
 
-accepted : (f : tie.After-check-raw) → accepts (checkedSays (f .check-raw .result)) ≡ true → accepts (checkSays (input (begun f))) ≡ true
-accepted f ok = ap accepts (sym (f .check-raw .ensures .answer)) ∙ ok
+accepted : (f : tie.After-fit-raw) → accepts (checkedSays (f .fit-raw .result)) ≡ true → accepts (checkSays (input (begun f))) ≡ true
+accepted f ok = ap accepts (sym (f .fit-raw .ensures .answer)) ∙ ok
 
 weak-raw-requires : tie.Need-weak-raw-requires
 weak-raw-requires c κs = λ ok.
@@ -127,7 +127,7 @@ weak-raw-requires c κs = λ ok.
 roots-of-requires : tie.Need-roots-of-requires
 roots-of-requires c κs = λ ok.
     let f = from-weak-raw (from-roots-of c .before) in
-    roots-asked (input (begun f)) (accepted f ok) _ _ (f .check-raw .ensures .marks)
+    roots-asked (input (begun f)) (accepted f ok) _ _ (f .fit-raw .ensures .marks)
 
 -- before the pass: the calls so far
 abbrev rooms-at : tie.After-begin → tie.After-first-rooms
@@ -139,7 +139,7 @@ roots-at b = from-first-rooms (rooms-at b .before)
 abbrev weak-at : tie.After-begin → tie.After-weak-raw
 weak-at b = from-roots-of (roots-at b .before)
 
-abbrev checks-at : tie.After-begin → tie.After-check-raw
+abbrev checks-at : tie.After-begin → tie.After-fit-raw
 checks-at b = from-weak-raw (weak-at b .before)
 
 staged : (b : tie.After-begin)
@@ -150,17 +150,17 @@ staged : (b : tie.After-begin)
 staged b =
     let f = checks-at b in
     record {
-      check = f .check-raw .result;
+      check = f .fit-raw .result;
       told = placeCount (input (begun f));
-      marks = f .check-raw .last .1 .1 .1 .1 .1 .1 .1 .1 .1 .1 .1 .1 .1 .1 .1 .1 .1 .1 .1 .1 .1 .1 .1 .1 .1 .0;
+      marks = f .fit-raw .last .1 .1 .1 .1 .1 .1 .1 .1 .1 .1 .1 .1 .1 .1 .1 .1 .1 .1 .1 .1 .1 .1 .1 .1 .1 .0;
       pairs = weak-at b .weak-raw .result;
       distinct = roots-at b .roots-of .result;
-      tested = judged _ (f .check-raw .ensures);
+      tested = marked _ (f .fit-raw .ensures);
       weak = λ ok. rw (Pairs.weak-raw (input (begun f)) _ refl) (weak-at b .weak-raw .ensures ok);
       rooted = roots-at b .roots-of .ensures;
       working-kept =
           roots-at b .roots-of .kept .1 .1 .1 .1 .0
-          ∙ f .check-raw .kept .1 .1 .1 .1 .1 .1 .1 .1 .1 .1 .1 .1 .1 .1 .1 .1 .1 .1 .1 .1 .1 .1 .1 .1 .1 .0;
+          ∙ f .fit-raw .kept .1 .1 .1 .1 .1 .1 .1 .1 .1 .1 .1 .1 .1 .1 .1 .1 .1 .1 .1 .1 .1 .1 .1 .1 .1 .0;
       roots-kept = roots-at b .roots-of .kept .1 .1 .1 .0;
       rooms = rooms-at b .first-rooms .ensures;
     }
