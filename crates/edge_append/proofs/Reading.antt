@@ -1,13 +1,13 @@
 -- The references as the functions read them are the references of the definitions. Assumes nothing.
-use Prim.Native.Nat.{ℕ, zero, suc, _+_, _-_}
-use mathlib.Core.Path.{_≡_, refl, ap}
+use Prim.Native.Nat.{ℕ, zero, suc, _+_, _-_, _%_, _^_, _<_}
+use mathlib.Core.Path.{_≡_, refl, ap, _∙_}
 use mathlib.Core.Bool.{Bool, true}
 use mathlib.Core.List.{List, [], _∷_}
 use native.Mathlib.Omega.{arith}
 use borrow.Author.Tests.{eq-eqb, ne-eqb}
 use Rattle.columns.specs.Lists.{_!_, collect, tab}
 use Rattle.index.specs.Copied.{Ids}
-use Rattle.rules.specs.Types.{LOADER, ARRAY-ELEMENT, keeps}
+use Rattle.rules.specs.Types.{LOADER, ARRAY-ELEMENT, elementLabel, keeps}
 use Rattle.rules.specs.declared.ReferencePolicy.{ReferencePolicy}
 use Rattle.rules.specs.Input.{copiedId}
 use Rattle.edge_append.specs.Append.{refOf}
@@ -17,9 +17,12 @@ pub slot-read : (labels weak : List ℕ) (keeps : Bool) (place id : ℕ) {kept :
 unfolding slotWith
 slot-read labels weak keeps place id e = ap (λ (b : Bool). refOf 0 (labels ! place) b id) e
 
-pub element-read : (k id : ℕ) {n : ℕ} → n ≡ k → refOf 1 (ARRAY-ELEMENT + n) true id ≡ elementWith k id
+-- l is a label that a function of `rules::Label` made; an array's index has the 31 bits that it counts.
+pub element-read : (k id : ℕ) → k < 2 ^ 31 → {n l : ℕ} → n ≡ k → l ≡ elementLabel n → refOf 1 l true id ≡ elementWith k id
 unfolding elementWith
-element-read k id e = ap (λ (n : ℕ). refOf 1 (ARRAY-ELEMENT + n) true id) e
+element-read k id small e made =
+    let whole : k % ARRAY-ELEMENT ≡ k = omega (arith, small) in
+    ap (λ (l : ℕ). refOf 1 l true id) (made ∙ ap elementLabel e ∙ ap (λ (i : ℕ). ARRAY-ELEMENT + i) whole)
 
 module _ (c : Ids) (start k : ℕ) {id : ℕ} (e : id ≡ copiedId c (start + k)) where
   pub copied-slot : (labels weak : List ℕ) (keeps : Bool) (first : ℕ) → slotWith labels weak keeps (first + k) id ≡ copiedSlot c start labels weak keeps first k
@@ -31,9 +34,9 @@ module _ (c : Ids) (start k : ℕ) {id : ℕ} (e : id ≡ copiedId c (start + k)
   copied-element = ap (elementWith k) e
 
 module _ (names types values : List ℕ) (place : ℕ) where
-  pub static-object : types ! place ≡ 2 → refOf 2 (names ! place) true (values ! place) ∷ [] ≡ staticRefAt names types values place
+  pub static-object : types ! place ≡ 2 → {l : ℕ} → l ≡ names ! place → refOf 2 l true (values ! place) ∷ [] ≡ staticRefAt names types values place
   unfolding staticRefAt
-  static-object e = rw (eq-eqb _ _ e)
+  static-object e made = rw (made, eq-eqb _ _ e)
 
   pub static-skipped : (types ! place ≡ 2 → ⊥) → [] ≡ staticRefAt names types values place
   unfolding staticRefAt
@@ -78,9 +81,9 @@ module _ (loaders : List ℕ) where
   unfolding loaderAt
   loader-none mark e = rw e
 
-  pub loader-some : (mark : ℕ) → (mark ≡ 0 → ⊥) → refOf 3 LOADER true (loaders ! (mark - 1)) ∷ [] ≡ loaderAt loaders mark
+  pub loader-some : (mark : ℕ) → (mark ≡ 0 → ⊥) → {l : ℕ} → l ≡ LOADER → refOf 3 l true (loaders ! (mark - 1)) ∷ [] ≡ loaderAt loaders mark
   unfolding loaderAt
-  loader-some zero h = absurd (h refl)
-  loader-some (suc c) h =
+  loader-some zero h made = absurd (h refl)
+  loader-some (suc c) h made =
       let p : suc c - 1 ≡ c = omega arith in
-      rw p
+      rw (made, p)

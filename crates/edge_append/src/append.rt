@@ -125,11 +125,11 @@ pub fn append_element(
     requires { ⌜ EdgeRoom (now ids) (elementWith k id ∷ []) s (length (now targets)) (length (now labels)) (length (now «weak_to»)) ⌝ }
     ensures { λ q. ⌜ Appended (entry ids) (elementWith k id ∷ []) s q (entry targets) (entry labels) (entry «weak_to») (exit targets) (exit labels) (exit «weak_to») ⌝ }
 {
-    let label = rules::Label::ARRAY_ELEMENT + narrow(k);
+    let label = rules::Label::element(narrow(k));
     append(
         s,
         ELEMENT,
-        label,
+        label.0,
         true,
         id,
         ids,

@@ -33,10 +33,11 @@ fn append_static(
     if static_types[place] != OBJECT {
         return s;
     }
+    let label = rules::Label::field(static_names[place]);
     append::append(
         s,
         append::STATIC,
-        static_names[place],
+        label.0,
         true,
         static_values[place],
         ids,
@@ -151,10 +152,11 @@ pub fn found_loader(
     if mark == 0 {
         return s;
     }
+    let label = rules::Label::loader();
     append::append(
         s,
         append::LOADER,
-        rules::Label::LOADER,
+        label.0,
         true,
         loaders[mark - 1],
         ids,

@@ -52,7 +52,8 @@ fn element(next: u32, gap: u32) -> EdgeLabel
     if Label::ARRAY_ELEMENT - gap <= next {
         return EdgeLabel::Bad;
     }
-    EdgeLabel::Is(Label::ARRAY_ELEMENT + (next + gap))
+    let label = Label::element(next + gap);
+    EdgeLabel::Is(label.0)
 }
 
 // The label of a field by its place. What stands among the fields with an element's label is no field.

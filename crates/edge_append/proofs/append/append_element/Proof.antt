@@ -7,8 +7,8 @@ use Rattle.edge_append.proofs.append.append_element.Tie as tie
 
 append-requires : tie.Need-append-requires
 append-requires c κs =
-    let a = c .before .before .before .before .before .before .before .before .before .args in
-    rw (element-read (a .k) (a .id) (c .before .before .before .narrow .ensures)) (c .before .before .before .before .before .before .before .before .before .pre .1)
+    let s = c .before .before .before .before .before .before .before .before .before .before in
+    rw (element-read (s .args .k) (s .args .id) (s .pre .0) (c .before .before .before .before .narrow .ensures) (c .before .before .before .element .ensures)) (s .pre .1)
 
 same-length : tie.Need-same-length
 same-length c = same-targets (c .before .before .before .before .before .before .append .ensures)
@@ -21,15 +21,16 @@ same-length-3 c = same-weak (c .before .before .before .before .before .before .
 
 returns : tie.Need-returns
 returns c =
-    let a = c .before .before .before .before .before .before .before .before .before .before .before .before .before .before .before .before .args in
-    rw (← element-read (a .k) (a .id) (c .before .before .before .before .before .before .before .before .before .before .narrow .ensures)) (c .before .before .before .before .before .before .append .ensures)
+    let s = c .before .before .before .before .before .before .before .before .before .before .before .before .before .before .before .before .before in
+    let made = c .before .before .before .before .before .before .before .before .before .before in
+    rw (← element-read (s .args .k) (s .args .id) (s .pre .0) (made .before .narrow .ensures) (made .element .ensures)) (c .before .before .before .before .before .before .append .ensures)
 
 pub append-element-spec : {M : Type 1} → statement M
 append-element-spec =
     tie.close
     (tie.spec
     (λ c κs. search needs)
-    (λ c. search needs)
+    (λ c κs. search needs)
     append-requires
     same-length
     same-length-2

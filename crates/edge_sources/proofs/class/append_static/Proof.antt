@@ -7,8 +7,9 @@ use Rattle.edge_sources.proofs.class.append_static.Tie as tie
 
 append-requires : tie.Need-append-requires
 append-requires c κs =
-    let a = c .before .before .before .before .before .before .before .before .before .before .before .before .before .before .before .args in
-    rw (static-object (a .static-names .now) (a .static-types .now) (a .static-values .now) (a .place) (c .before .before .before .before .before .if1 .left)) (c .before .before .before .before .before .before .before .before .before .before .before .before .before .before .before .pre .1)
+    let s = c .before .before .before .before .before .before .before .before .before .before .before .before .before .before .before .before in
+    let a = s .args in
+    rw (static-object (a .static-names .now) (a .static-types .now) (a .static-values .now) (a .place) (c .before .before .before .before .before .before .if1 .left) (c .before .before .before .before .field .ensures)) (s .pre .1)
 
 same-length : tie.Need-same-length
 same-length c = same-targets (c .before .before .before .before .before .before .append .ensures)
@@ -26,8 +27,9 @@ returns c =
 
 returns-2 : tie.Need-returns-2
 returns-2 c =
-    let a = c .before .before .before .before .before .before .before .before .before .before .before .before .before .before .before .before .before .before .before .before .before .before .args in
-    rw (← static-object (a .static-names .now) (a .static-types .now) (a .static-values .now) (a .place) (c .before .before .before .before .before .before .before .before .before .before .before .before .if1 .left)) (c .before .before .before .before .before .before .append .ensures)
+    let a = c .before .before .before .before .before .before .before .before .before .before .before .before .before .before .before .before .before .before .before .before .before .before .before .args in
+    let made = c .before .before .before .before .before .before .before .before .before .before .before in
+    rw (← static-object (a .static-names .now) (a .static-types .now) (a .static-values .now) (a .place) (made .before .before .if1 .left) (made .field .ensures)) (c .before .before .before .before .before .before .append .ensures)
 
 pub append-static-spec : {M : Type 1} → statement M
 append-static-spec =
@@ -37,6 +39,7 @@ append-static-spec =
     returns
     (λ c. search needs)
     (λ c. search needs)
+    (λ c κs. search needs)
     (λ c. search needs)
     (λ c. search needs)
     append-requires

@@ -12,15 +12,15 @@ returns c =
     rw (← loader-none (a .loaders .now) (a .mark) (c .if1 .taken)) appended-none
 
 mul-append : tie.Need-mul-append
-mul-append c = omega (arith, c .before .before .before .before .before .before .before .pre .0 (omega arith))
+mul-append c = omega (arith, c .before .before .before .before .before .before .before .before .pre .0 (omega arith))
 
 shared-slice-read-append : tie.Need-shared-slice-read-append
-shared-slice-read-append c = omega (arith, c .before .before .before .before .before .before .before .before .pre .0 (omega arith))
+shared-slice-read-append c = omega (arith, c .before .before .before .before .before .before .before .before .before .pre .0 (omega arith))
 
 append-requires : tie.Need-append-requires
 append-requires c κs =
-    let a = c .before .before .before .before .before .before .before .before .before .before .before .args in
-    rw (loader-some (a .loaders .now) (a .mark) (c .before .before .before .before .if1 .left)) (c .before .before .before .before .before .before .before .before .before .before .before .pre .1)
+    let s = c .before .before .before .before .before .before .before .before .before .before .before .before in
+    rw (loader-some (s .args .loaders .now) (s .args .mark) (c .before .before .before .before .before .if1 .left) (c .before .before .before .before .loader .ensures)) (s .pre .1)
 
 same-length : tie.Need-same-length
 same-length c = same-targets (c .before .before .before .before .before .before .append .ensures)
@@ -33,14 +33,16 @@ same-length-3 c = same-weak (c .before .before .before .before .before .before .
 
 returns-2 : tie.Need-returns-2
 returns-2 c =
-    let a = c .before .before .before .before .before .before .before .before .before .before .before .before .before .before .before .before .before .before .args in
-    rw (← loader-some (a .loaders .now) (a .mark) (c .before .before .before .before .before .before .before .before .before .before .before .if1 .left)) (c .before .before .before .before .before .before .append .ensures)
+    let a = c .before .before .before .before .before .before .before .before .before .before .before .before .before .before .before .before .before .before .before .args in
+    let made = c .before .before .before .before .before .before .before .before .before .before .before in
+    rw (← loader-some (a .loaders .now) (a .mark) (made .before .if1 .left) (made .loader .ensures)) (c .before .before .before .before .before .before .append .ensures)
 
 pub found-loader-spec : {M : Type 1} → statement M
 found-loader-spec =
     tie.close
     (tie.spec
     returns
+    (λ c κs. search needs)
     (λ c. search needs)
     mul-append
     shared-slice-read-append

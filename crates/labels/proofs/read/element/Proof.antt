@@ -1,5 +1,6 @@
 -- `labels::read::element` meets its contract: an index that has more than 31 bits is refused before it is made. Assumes nothing.
-use Prim.Native.Nat.{_+_, _≤_, _<_}
+use Prim.Native.Nat.{_+_, _%_, _≤_, _<_}
+use mathlib.Core.Path.{_≡_}
 use native.Mathlib.Omega.{arith}
 use borrow.Author.Tests.{lt-ltb, le-ltb}
 use Rattle.rules.specs.Types.{ARRAY-ELEMENT}
@@ -15,9 +16,10 @@ returns c =
 
 returns-2 : tie.Need-returns-2
 returns-2 c =
-    let a = c .before .args in
+    let a = c .before .before .args in
     let l : a .next + a .gap < ARRAY-ELEMENT = omega arith in
-    simp (lt-ltb _ _ l)
+    let whole : (a .next + a .gap) % ARRAY-ELEMENT ≡ a .next + a .gap = omega arith in
+    simp (c .element .ensures, whole, lt-ltb _ _ l)
 
 pub element-spec : {M : Type 1} → statement M
 element-spec =
@@ -26,5 +28,5 @@ element-spec =
     (λ c. search needs)
     returns
     (λ c. search needs)
-    (λ c. search needs)
+    (λ c κs. search needs)
     returns-2)
