@@ -1,14 +1,13 @@
 -- On the columns of an accepted build the rows that `weak_referents` answers hold the object's weak targets as the input gives them, sorted. Assumes nothing.
-use Prim.Native.Nat.{ℕ, zero, suc, _≤_, _<_}
+use Prim.Native.Nat.{ℕ, suc, _≤_, _<_}
 use native.Mathlib.Omega.{arith}
-use native.Mathlib.Decide.{decLt}
 use mathlib.Core.Path.{_≡_, refl, sym, ap, ap₂, _∙_}
 use mathlib.Core.Logic.{_⊎_, inl, inr}
-use mathlib.Core.Bool.{Bool, true, false, cond, false≢true, _||_, _&&_}
-use mathlib.Core.List.{List, [], _∷_, _++_, append-nil}
+use mathlib.Core.Bool.{Bool, true, false, cond, _||_, _&&_}
+use mathlib.Core.List.{List, [], _∷_}
 use lib.Dec.{eqb, leb, ltb}
 use lib.ListN.{length}
-use borrow.Author.Tests.{lt-ltb, le-ltb, le-leb, leb-false, eq-eqb, ne-eqb, eqb-true, eqb-false}
+use borrow.Author.Tests.{lt-ltb, le-ltb, eq-eqb, ne-eqb, eqb-true, eqb-false}
 use Rattle.columns.specs.Lists.{collect, insert, sort}
 use Rattle.columns.specs.Ranks.{rank}
 use Rattle.columns.proofs.Lists.{lt-or-ge}
@@ -17,8 +16,9 @@ use Rattle.rules.specs.Input.{Input, objectCount}
 use Rattle.rules.specs.Edges.{Pair, pairLe, pairsOf, weakPairs, weakTargets, graph}
 use Rattle.rules.specs.Questions.{Columns, columnsOf, weakRead}
 use Rattle.rules.proofs.Acceptance.{Passed}
-use Rattle.rules.proofs.Finished.{weak-rows}
-use Rattle.rules.proofs.Weak.{mine, mine-append, mine-own, pair-climbs}
+use Rattle.rules.proofs.Laid.{either-pair}
+use Rattle.rules.proofs.Finished.{weak-rows, mine-all}
+use Rattle.rules.proofs.Weak.{mine, pair-climbs}
 use Rattle.ask_span.specs.Reading.{spanPart, weakRowsOf}
 use Rattle.ask_span.proofs.Spans.{rank-next, part-is, weak-inside}
 use Rattle.ask_span.proofs.Built.{weak-built}
@@ -32,17 +32,6 @@ level p q e = ap₂ (λ (a b : Bool). a || (b && leb (p .target) (q .target))) (
 
 higher : (p q : Pair) → q .object < p .object → pairLe p q ≡ false
 higher p q l = ap₂ (λ (a b : Bool). a || (b && leb (p .target) (q .target))) (le-ltb (p .object) (q .object) (omega arith)) (ne-eqb (p .object) (q .object) (λ e. omega arith))
-
-either : (p q : Pair) → pairLe p q ≡ false → pairLe q p ≡ true
-either p q f = go (lt-or-ge (q .object) (p .object)) (lt-or-ge (p .object) (q .object))
-  where
-    go : (q .object < p .object) ⊎ (p .object ≤ q .object) → (p .object < q .object) ⊎ (q .object ≤ p .object) → pairLe q p ≡ true
-    go (inl l) m = lower q p l
-    go (inr l) (inl m) = absurd (false≢true (sym f ∙ lower p q m))
-    go (inr l) (inr m) =
-        let same : p .object ≡ q .object = omega arith in
-        let less : q .target < p .target = leb-false (p .target) (q .target) (sym (level p q same) ∙ f) in
-        level q p (sym same) ∙ le-leb (q .target) (p .target) (omega arith)
 
 chain-rest : (q : Pair) (ps : List Pair) → Chain pairLe (q ∷ ps) → Chain pairLe ps
 chain-rest q [] h = tt
@@ -103,19 +92,8 @@ module _ (o : ℕ) where
     where
       go : (b : Bool) → eqb (p .object) o ≡ b → mine o (sort pairLe ps) ≡ sort leb (mine o ps)
           → mine o (insert pairLe p (sort pairLe ps)) ≡ sort leb (cond b (p .target ∷ mine o ps) (mine o ps))
-      go true e ih = insert-own p (sort pairLe ps) (eqb-true (p .object) o e) (sort-chain pairLe either ps) ∙ ap (insert leb (p .target)) ih
+      go true e ih = insert-own p (sort pairLe ps) (eqb-true (p .object) o e) (sort-chain pairLe either-pair ps) ∙ ap (insert leb (p .target)) ih
       go false e ih = insert-other p (sort pairLe ps) (eqb-false (p .object) o e) ∙ ih
-
--- The pairs of the first n objects hold o's weak targets, where o is one of these.
-weak-among : (x : Input) (o n : ℕ) → mine o (collect (pairsOf x) n) ≡ cond (ltb o n) (weakTargets x o) []
-weak-among x o zero = ap (λ (b : Bool). cond b (weakTargets x o) []) (sym (le-ltb o 0 (omega arith)))
-weak-among x o (suc n) =
-    mine-append o (collect (pairsOf x) n) (pairsOf x n) ∙ ap₂ _++_ (weak-among x o n) (mine-own o n (weakTargets x n)) ∙ go (decLt o n) (decLt n o)
-  where
-    go : Dec (o < n) → Dec (n < o) → cond (ltb o n) (weakTargets x o) [] ++ cond (eqb n o) (weakTargets x n) [] ≡ cond (ltb o (suc n)) (weakTargets x o) []
-    go (yes l) m = rw (lt-ltb o n l, lt-ltb o (suc n) (omega arith), ne-eqb n o (λ e. omega arith)) (append-nil (weakTargets x o))
-    go (no l) (yes m) = rw (le-ltb o n (omega arith), le-ltb o (suc n) (omega arith), ne-eqb n o (λ e. omega arith))
-    go (no l) (no m) = let e : n ≡ o = omega arith in rw (le-ltb o n (omega arith), lt-ltb o (suc n) (omega arith), eq-eqb n o e) (ap (weakTargets x) e)
 
 module _ (x : Input) (h : Passed x) (o : ℕ) (l : o < objectCount x) where
   abbrev c : Columns
@@ -129,7 +107,7 @@ module _ (x : Input) (h : Passed x) (o : ℕ) (l : o < objectCount x) where
   unfolding graph weakPairs
   weak-rows-built =
       weak-rows x h o ∙ mine-sort o (collect (pairsOf x) (objectCount x))
-      ∙ ap (sort leb) (weak-among x o (objectCount x) ∙ ap (λ (b : Bool). cond b (weakTargets x o) []) (lt-ltb o (objectCount x) l))
+      ∙ ap (sort leb) (mine-all x o (objectCount x) l)
 
   -- So does the part of the weak targets that the answer of `weak_referents` says.
   pub weak-targets-built : spanPart (weakRowsOf (length (c .offsets .short)) (c .weakFrom) (c .weakTo) o) (c .weakTo) ≡ sort leb (weakTargets x o)

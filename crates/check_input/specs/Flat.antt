@@ -14,21 +14,21 @@ use Rattle.rules.specs.Places.{placeCount}
 use Rattle.rules.specs.Verdict.{firstOf, at, once, badLengths, badLimit, badObject, badDumped, badCopied, badSpan, badRoot, faults, checkSays}
 use Rattle.rules.specs.Needs.{Fits}
 use Rattle.check_tables.specs.Found.{marksIf}
-use Rattle.check_tables.specs.Reads.{noSlots, noStatics, noPolicy}
-use Rattle.check_whole.specs.Whole.{asIs, limitSays}
+use Rattle.check_tables.specs.Reads.{own, noSlots, noStatics, noPolicy}
+use Rattle.check_whole.specs.Whole.{limitSays}
 
 -- a schema of slot ranges alone, which is what the checks of copied ids, parts and roots read of it
 abbrev rangesOnly : List ℕ → List ℕ → Schema
-rangesOnly slotStart slotEnd = schemaOf (classTable asIs [] [] [] [] slotStart slotEnd [] []) noSlots noStatics 0
+rangesOnly slotStart slotEnd = schemaOf (classTable own [] [] [] [] slotStart slotEnd [] []) noSlots noStatics 0
 
 -- the columns of those checks, on either route
 abbrev pub lateColumns : List ℕ → List ℕ → List ℕ → List ℕ → List ℕ → List ℕ → List ℕ → List ℕ → List ℕ → ℕ → List ℕ → List ℕ → Input
 lateColumns ids kinds classes lengths slotStart slotEnd codes escapePlaces escapeIds base starts roots =
-    inputOf (objectTable asIs ids kinds classes lengths) (rangesOnly slotStart slotEnd) (copiedRoute asIs codes escapePlaces escapeIds base starts) roots noPolicy
+    inputOf (objectTable own ids kinds classes lengths) (rangesOnly slotStart slotEnd) (copiedRoute own codes escapePlaces escapeIds base starts) roots noPolicy
 
 abbrev pub lateRaw : List ℕ → List ℕ → List ℕ → List ℕ → List ℕ → List ℕ → List ℕ → ℕ → Input
 lateRaw ids kinds lengths starts bodies bytes roots size =
-    inputOf (objectTable asIs ids kinds [] lengths) (rangesOnly [] []) (rawRoute asIs bytes size starts bodies) roots noPolicy
+    inputOf (objectTable own ids kinds [] lengths) (rangesOnly [] []) (rawRoute own bytes size starts bodies) roots noPolicy
 
 -- The faults of copied ids, parts and roots; all faults in the order of refusal but PLACES, which is tested last, of an input that has none of these.
 unfoldable pub faultsLate : Input → List (List ℕ)

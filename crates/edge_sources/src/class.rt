@@ -26,7 +26,8 @@ fn append_static(
     weak_to: &mut [u32],
 ) -> Pass
     requires { ⌜ (place < length (now «static_names»)) × (place < length (now «static_types»)) × (place < length (now «static_values»)) ⌝ }
-    requires { ⌜ EdgeRoom (now ids) (staticRefAt (now «static_names») (now «static_types») (now «static_values») place) s (length (now targets)) (length (now labels)) (length (now «weak_to»)) ⌝ }
+    requires { ⌜ EdgeRoom (now ids) (staticRefAt (now «static_names») (now «static_types») (now «static_values») place) s
+        (length (now targets)) (length (now labels)) (length (now «weak_to»)) ⌝ }
     ensures { λ q. ⌜ Appended (entry ids) (staticRefAt (entry «static_names») (entry «static_types») (entry «static_values») place) s q (entry targets)
         (entry labels) (entry «weak_to») (exit targets) (exit labels) (exit «weak_to») ⌝ }
 {

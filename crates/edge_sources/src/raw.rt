@@ -133,7 +133,8 @@ fn elements(
 ) -> Pass
     requires { ⌜ (count ≤ 2 ^ 31) × (size ≤ 8) × (start + count * size ≤ length (now bytes)) ⌝ }
     requires { ⌜ EdgeRoom (now ids) (tab (rawElement (now bytes) size start) count) from (length (now targets)) (length (now labels)) (length (now «weak_to»)) ⌝ }
-    ensures { λ q. ⌜ Appended (entry ids) (tab (rawElement (entry bytes) size start) count) from q (entry targets) (entry labels) (entry «weak_to») (exit targets) (exit labels) (exit «weak_to») ⌝ }
+    ensures { λ q. ⌜ Appended (entry ids) (tab (rawElement (entry bytes) size start) count) from q
+        (entry targets) (entry labels) (entry «weak_to») (exit targets) (exit labels) (exit «weak_to») ⌝ }
 {
     let mut s = from;
     let mut at = start;
@@ -223,7 +224,8 @@ pub fn object_elements(
 ) -> Pass
     requires { ⌜ (kind ≡ 1 → (count ≤ 2 ^ 31) × (size ≤ 8) × (start + count * size ≤ length (now bytes))) ⌝ }
     requires { ⌜ EdgeRoom (now ids) (rawElements (now bytes) size start kind count) s (length (now targets)) (length (now labels)) (length (now «weak_to»)) ⌝ }
-    ensures { λ q. ⌜ Appended (entry ids) (rawElements (entry bytes) size start kind count) s q (entry targets) (entry labels) (entry «weak_to») (exit targets) (exit labels) (exit «weak_to») ⌝ }
+    ensures { λ q. ⌜ Appended (entry ids) (rawElements (entry bytes) size start kind count) s q
+        (entry targets) (entry labels) (entry «weak_to») (exit targets) (exit labels) (exit «weak_to») ⌝ }
 {
     if kind != rules::Kind::OBJECT_ARRAY {
         return s;

@@ -40,7 +40,7 @@ module _ (x : Input) where
       ∙ ap₂ _++_ (mine-before o n (omega arith))
       (mine-own o n (weakTargets x n) ∙ ap (λ (b : Bool). cond b (weakTargets x n) []) (ne-eqb n o (λ e. omega arith)))
 
-  mine-all : (o n : ℕ) → o < n → mine o (collect (pairsOf x) n) ≡ weakTargets x o
+  pub mine-all : (o n : ℕ) → o < n → mine o (collect (pairsOf x) n) ≡ weakTargets x o
   mine-all o zero h = absurd (not-suc-le-zero h)
   mine-all o (suc n) h = mine-append o (collect (pairsOf x) n) (pairsOf x n) ∙ go (decLt o n) (mine-all o n)
     where

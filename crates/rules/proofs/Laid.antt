@@ -53,7 +53,7 @@ keeps-label P l missing h = tt
 keeps-label P l nothing h = tt
 
 -- of two pairs one comes before the other
-either-pair : (p q : Pair) → pairLe p q ≡ false → pairLe q p ≡ true
+pub either-pair : (p q : Pair) → pairLe p q ≡ false → pairLe q p ≡ true
 either-pair p q e = go (ltb (q .object) (p .object)) refl
   where
     go : (b : Bool) → ltb (q .object) (p .object) ≡ b → b || (eqb (q .object) (p .object) && leb (q .target) (p .target)) ≡ true
