@@ -45,7 +45,7 @@ pub fn append(
     if id == 0 {
         return s;
     }
-    match lookup::hints::find_hinted(ids, id, short, scale) {
+    match lookup_hints::find_hinted(ids, id, short, scale) {
         lookup::Found::At(t) => {
             if kept {
                 let at = s.edges;

@@ -164,7 +164,7 @@ pub fn edges_copied(
     if !rules::accepted(v) {
         return v;
     }
-    let scale = lookup::hints::scale(ids, short.len());
+    let scale = lookup_hints::scale(ids, short.len());
     let q = walk_copied(
         Pass::begun(),
         0,

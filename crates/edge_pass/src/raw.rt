@@ -157,7 +157,7 @@ pub fn edges_raw(
     if !rules::accepted(v) {
         return v;
     }
-    let scale = lookup::hints::scale(ids, short.len());
+    let scale = lookup_hints::scale(ids, short.len());
     let q = walk_raw(
         Pass::begun(),
         0,

@@ -1,6 +1,4 @@
 // The place of an id in a column of ids: by a walk from the front, and on a column that rises by a search that starts from a guess.
-pub mod hints;
-
 ghost use mathlib.Core.Path.{_≡_};
 ghost use lib.Dec.{ltb};
 ghost use lib.ListN.{length};

@@ -1,9 +1,9 @@
--- `lookup::hints::ahead` meets its contract: a number of 32 bits times one of 16 has 48. Assumes nothing.
+-- `lookup_hints::ahead` meets its contract: a number of 32 bits times one of 16 has 48. Assumes nothing.
 use Prim.Native.Nat.{ℕ, _*_, _≤_, _<_}
 use native.Mathlib.Omega.{arith}
 use native.Mathlib.Nat.{mul-le-mul-left}
-use Rattle.lookup.proofs.hints.ahead.Statement.{statement}
-use Rattle.lookup.proofs.hints.ahead.Tie as tie
+use Rattle.lookup_hints.proofs.ahead.Statement.{statement}
+use Rattle.lookup_hints.proofs.ahead.Tie as tie
 
 at-most : (count part : ℕ) → part < 65536 → count * part ≤ count * 65535
 at-most count part h = mul-le-mul-left count (omega (arith, h))

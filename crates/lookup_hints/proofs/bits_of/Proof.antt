@@ -1,8 +1,8 @@
--- `lookup::hints::bits_of` meets its contract: a number of 64 bits has at most 64 leading zeros. Assumes nothing.
+-- `lookup_hints::bits_of` meets its contract: a number of 64 bits has at most 64 leading zeros. Assumes nothing.
 use native.Mathlib.Omega.{arith}
 use lib.Count.{leading-le}
-use Rattle.lookup.proofs.hints.bits_of.Statement.{statement}
-use Rattle.lookup.proofs.hints.bits_of.Tie as tie
+use Rattle.lookup_hints.proofs.bits_of.Statement.{statement}
+use Rattle.lookup_hints.proofs.bits_of.Tie as tie
 
 sub-result : tie.Need-sub-result
 sub-result c = leading-le 64 (c .args .n)

@@ -1,8 +1,8 @@
--- `lookup::hints::find_hinted` meets its contract: a place that holds the id is the lookup's. Assumes nothing.
+-- `lookup_hints::find_hinted` meets its contract: a place that holds the id is the lookup's. Assumes nothing.
 use Rattle.lookup.proofs.Search.{sought-at}
 use borrow.Author.Needs.{needs}
-use Rattle.lookup.proofs.hints.find_hinted.Statement.{statement}
-use Rattle.lookup.proofs.hints.find_hinted.Tie as tie
+use Rattle.lookup_hints.proofs.find_hinted.Statement.{statement}
+use Rattle.lookup_hints.proofs.find_hinted.Tie as tie
 
 returns : tie.Need-returns
 returns c = sought-at (c .before .before .if1 .taken) (c .if2 .taken)

@@ -1,0 +1,3 @@
+pub mod Scales
+pub mod Hinting
+pub mod Theorems
