@@ -1,4 +1,4 @@
--- `lookup_hints::ahead` meets its contract: a number of 32 bits times one of 16 has 48. Assumes nothing.
+-- `lookup_hints::ahead` meets its contract: a part is less than 65,536 of 65,536, and the product has 48 bits. Assumes nothing.
 use Prim.Native.Nat.{ℕ, _*_, _≤_, _<_}
 use native.Mathlib.Omega.{arith}
 use native.Mathlib.Nat.{mul-le-mul-left}

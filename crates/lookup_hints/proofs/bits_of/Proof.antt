@@ -1,4 +1,4 @@
--- `lookup_hints::bits_of` meets its contract: a number of 64 bits has at most 64 leading zeros. Assumes nothing.
+-- `lookup_hints::bits_of` meets its contract: there are at most 64 leading zeros. Assumes nothing.
 use native.Mathlib.Omega.{arith}
 use lib.Count.{leading-le}
 use Rattle.lookup_hints.proofs.bits_of.Statement.{statement}
