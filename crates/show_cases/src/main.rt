@@ -116,7 +116,9 @@ fn call<'a>(k: usize, bytes: &'a [u8], halves: &'a [u32], words: &'a [u64], cuts
         names::HAND => hand::lend(bytes, halves, words, cuts),
         names::COLUMNS => slots::lend(bytes, halves, words, cuts, false),
         names::ROWS => slots::lend(bytes, halves, words, cuts, true),
-        _ => print::word(b"; no such call"),
+        _ => {
+            print::word(b"; no such call");
+        }
     }
 }
 

@@ -48,8 +48,12 @@ fn row(offsets: &[u32], labels: &[u32], weak: &[u8], k: usize) -> SlotRow {
 
 fn answer(r: Filled) {
     match r {
-        Filled::Done(n) => print::line(b"; rows ", n as u64),
-        Filled::Room(k) => print::line(b"; refused: ROOM, 9, buffer ", k as u64),
+        Filled::Done(n) => {
+            print::line(b"; rows ", n as u64);
+        }
+        Filled::Room(k) => {
+            print::line(b"; refused: ROOM, 9, buffer ", k as u64);
+        }
     }
 }
 

@@ -9,7 +9,9 @@ use store::Offset;
 fn show_offset(answer: Offset) {
     print::word(b"    ");
     match answer {
-        Offset::Value(v) => print::line(b"offset ", v),
+        Offset::Value(v) => {
+            print::line(b"offset ", v);
+        }
         Offset::Index(i) => refused::tell(refused::INDEX, i),
         Offset::Columns(i) => refused::tell(refused::COLUMNS, i),
     }

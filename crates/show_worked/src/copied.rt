@@ -8,7 +8,9 @@ use index::CopiedId;
 fn show_id(answer: CopiedId) {
     print::word(b"    ");
     match answer {
-        CopiedId::Id(id) => print::line(b"id ", id),
+        CopiedId::Id(id) => {
+            print::line(b"id ", id);
+        }
         CopiedId::Index(i) => refused::tell(refused::INDEX, i),
         CopiedId::Copied(i) => refused::tell(refused::COPIED, i),
     }
