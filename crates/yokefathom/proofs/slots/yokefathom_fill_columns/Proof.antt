@@ -5,7 +5,7 @@ use Rattle.yokefathom.proofs.slots.yokefathom_fill_columns.Statement.{s
 use Rattle.yokefathom.proofs.slots.yokefathom_fill_columns.Tie as tie
 
 returns : tie.Need-returns
-returns c = slots-told (c .filled .ensures) (c .before .before .before .before .before .before .before .fill-columns .ensures)
+returns c = slots-told (c .tell .ensures) (c .before .before .before .before .before .before .before .before .fill-columns .ensures)
 
 pub yokefathom-fill-columns-spec : {M : Type 1} → statement M
 yokefathom-fill-columns-spec =
