@@ -2,6 +2,7 @@
 //! the C declaration, in which a slice is a pointer and a length, and a safe function of the same name. It is safe because the Rattle
 //! function asks nothing of its caller but what the slices' types say.
 #![allow(clippy::too_many_arguments)]
+use crate::input::SlotRow;
 
 macro_rules! calls {
     ($( $(#[$about:meta])* pub extern "C" fn $name:ident($($parameters:tt)*) $(-> $result:ident)? )*) => {
@@ -175,6 +176,15 @@ calls! {
     )
 
     /// The rows written, zeros behind them; or ROOM, and all three columns zero.
+    pub extern "C" fn yokefathom_fill_rows(
+        rows: &[SlotRow],
+        offsets: &mut [u32],
+        labels: &mut [u32],
+        weak: &mut [u8],
+        answer: &mut [u64; 4],
+    )
+
+    /// The same of rows that are lent as columns. The shortest says how many rows there are, so a host lends columns of one length.
     pub extern "C" fn yokefathom_fill_columns(
         from_offsets: &[u32],
         from_labels: &[u32],

@@ -48,35 +48,65 @@ pub struct Slots<'a> {
     pub weak: &'a [u8],
 }
 
-/// Slot columns of one's own, to be filled from rows that stand elsewhere.
+/// One slot, as a row: what [`SlotColumns::fill`] takes. It lies in memory as the `SlotRow` of the library does.
+#[repr(C)]
+#[derive(Clone, Copy, Debug, Default, PartialEq, Eq)]
+pub struct SlotRow {
+    /// Where in a body the id stands.
+    pub offset: u32,
+    /// The name of the field.
+    pub label: u32,
+    /// 1 if the reference is kept by the policy alone.
+    pub weak: u8,
+}
+
+/// Slot columns of one's own, to be filled from rows that stand elsewhere. Only what was filled is handed out.
 #[derive(Clone, Debug, Default, PartialEq, Eq)]
 pub struct SlotColumns {
-    /// Where in a body the id stands.
-    pub offsets: Vec<u32>,
-    /// The name of the field.
-    pub labels: Vec<u32>,
-    /// 1 if the reference is kept by the policy alone.
-    pub weak: Vec<u8>,
+    offsets: Vec<u32>,
+    labels: Vec<u32>,
+    weak: Vec<u8>,
+    filled: usize,
 }
 
 impl SlotColumns {
-    /// Columns with room for so many rows.
+    /// Columns with room for so many rows, none of them filled.
     pub fn with_room(rows: usize) -> SlotColumns {
-        SlotColumns { offsets: vec![0; rows], labels: vec![0; rows], weak: vec![0; rows] }
+        SlotColumns { offsets: vec![0; rows], labels: vec![0; rows], weak: vec![0; rows], filled: 0 }
     }
 
-    /// The rows that all three columns of `from` have, written from the front, with zeros behind them: how many they are. Where a column is
-    /// too short for them, ROOM, and all three are zero.
-    pub fn fill(&mut self, from: &Slots<'_>) -> Result<usize, Refusal> {
+    /// Fills the columns with these rows, in place of those before: how many they are. Where there is no room for all of them,
+    /// ROOM, and none is filled.
+    pub fn fill(&mut self, rows: &[SlotRow]) -> Result<usize, Refusal> {
         let mut answer = [0; 4];
-        let SlotColumns { offsets, labels, weak } = self;
-        ffi::yokefathom_fill_columns(from.offsets, from.labels, from.weak, offsets, labels, weak, &mut answer);
-        value(&answer).map(|rows| rows as usize)
+        ffi::yokefathom_fill_rows(rows, &mut self.offsets, &mut self.labels, &mut self.weak, &mut answer);
+        self.keep(&answer)
     }
 
-    /// The columns as a schema takes them.
+    /// The same with rows that are lent as columns. Where the three differ in length, LENGTHS, and none is filled.
+    pub fn fill_columns(&mut self, from: &Slots<'_>) -> Result<usize, Refusal> {
+        let Slots { offsets, labels, weak } = *from;
+        if labels.len() != offsets.len() || weak.len() != offsets.len() {
+            // No rows at all: that clears the columns.
+            self.fill(&[])?;
+            return Err(Refusal::Lengths);
+        }
+        let mut answer = [0; 4];
+        ffi::yokefathom_fill_columns(offsets, labels, weak, &mut self.offsets, &mut self.labels, &mut self.weak, &mut answer);
+        self.keep(&answer)
+    }
+
+    /// How many rows a call filled, which is kept: none where it refused.
+    fn keep(&mut self, answer: &[u64; 4]) -> Result<usize, Refusal> {
+        let rows = value(answer).map(|rows| rows as usize);
+        self.filled = rows.unwrap_or(0);
+        rows
+    }
+
+    /// The rows that were filled, as a schema takes them: none at first, and none after a refusal.
     pub fn slots(&self) -> Slots<'_> {
-        Slots { offsets: &self.offsets, labels: &self.labels, weak: &self.weak }
+        let filled = ..self.filled;
+        Slots { offsets: &self.offsets[filled], labels: &self.labels[filled], weak: &self.weak[filled] }
     }
 }
 
@@ -174,4 +204,46 @@ pub struct Parts<'a> {
     pub roots: &'a [u32],
     /// The dangling count, kept as it is.
     pub dangling: u64,
+}
+
+#[cfg(test)]
+mod tests {
+    use super::*;
+
+    const ROWS: [SlotRow; 3] = [
+        SlotRow { offset: 0, label: 5, weak: 1 },
+        SlotRow { offset: 8, label: 0, weak: 0 },
+        SlotRow { offset: u32::MAX, label: 7, weak: 255 },
+    ];
+
+    /// These rows in front and zeros behind, in columns of these lengths.
+    fn holding(rows: &[SlotRow], [offsets, labels, weak]: [usize; 3]) -> SlotColumns {
+        let row = |at: usize| rows.get(at).copied().unwrap_or_default();
+        SlotColumns {
+            offsets: (0..offsets).map(|at| row(at).offset).collect(),
+            labels: (0..labels).map(|at| row(at).label).collect(),
+            weak: (0..weak).map(|at| row(at).weak).collect(),
+            filled: rows.len(),
+        }
+    }
+
+    /// Whole columns, whose lengths may differ as those of `with_room` do not: none of the nines that they held is left.
+    #[test]
+    fn rows_are_written_or_nothing_is() {
+        let all = holding(&ROWS, [3; 3]);
+        for shape in 0..4usize.pow(4) {
+            let [rows, offsets, labels, weak] = std::array::from_fn(|k| shape / 4usize.pow(k as u32) % 4);
+            let nines = SlotColumns { offsets: vec![9; offsets], labels: vec![9; labels], weak: vec![9; weak], filled: 9 };
+            let (said, kept) = if rows <= offsets.min(labels).min(weak) { (Ok(rows), rows) } else { (Err(Refusal::Room(17)), 0) };
+            let left = holding(&ROWS[..kept], [offsets, labels, weak]);
+            let mut by_rows = nines.clone();
+            assert_eq!((by_rows.fill(&ROWS[..rows]), by_rows), (said, left.clone()));
+            let mut by_columns = nines.clone();
+            let from = Slots { offsets: &all.offsets[..rows], labels: &all.labels[..rows], weak: &all.weak[..rows] };
+            assert_eq!((by_columns.fill_columns(&from), by_columns), (said, left));
+            let mut refused = nines;
+            let from = Slots { weak: &[], labels: &[], offsets: &[8] };
+            assert_eq!((refused.fill_columns(&from), refused), (Err(Refusal::Lengths), holding(&[], [offsets, labels, weak])));
+        }
+    }
 }

@@ -32,7 +32,7 @@ mod whole;
 pub use account::{Account, Outcomes};
 pub use edges::Edges;
 pub use graph::{Columns, Graph};
-pub use input::{Classes, Input, Objects, Parts, ReferencePolicy, References, Schema, SlotColumns, Slots, Statics};
+pub use input::{Classes, Input, Objects, Parts, ReferencePolicy, References, Schema, SlotColumns, SlotRow, Slots, Statics};
 pub use refusal::Refusal;
 
 /// What the comparison with the original tries beyond a host's needs: builds into columns of its own, and whole questions.

@@ -22,7 +22,7 @@ pub enum Refusal {
     /// More places than the limit.
     Places,
     /// A buffer that is smaller than its need. [`Graph`](crate::Graph) lends enough and never gives it;
-    /// [`SlotColumns::fill`](crate::SlotColumns::fill) does, with 17, where its columns are too short.
+    /// [`SlotColumns::fill`](crate::SlotColumns::fill) does, with 17, where there is no room for all rows.
     Room(u64),
     /// Columns handed to `from_parts` that break their rules.
     Parts {

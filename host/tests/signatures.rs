@@ -1,4 +1,4 @@
-//! The declarations of `src/ffi.rs` are the signatures of the Rattle functions, word for word.
+//! The declarations of `src/ffi.rs` are the signatures of the Rattle functions, word for word, and a row that is lent has their fields.
 use std::collections::BTreeMap;
 use std::fs;
 use std::path::Path;
@@ -27,8 +27,20 @@ fn drifted(declared: &Signatures, proved: &Signatures) -> Vec<String> {
     names.filter(|&name| declared.get(name) != proved.get(name)).cloned().collect()
 }
 
+fn text(path: &Path) -> String {
+    fs::read_to_string(path).unwrap_or_else(|e| panic!("{}: {e}", path.display()))
+}
+
 fn read(path: &Path) -> Signatures {
-    exported(&fs::read_to_string(path).unwrap_or_else(|e| panic!("{}: {e}", path.display())))
+    exported(&text(path))
+}
+
+/// The fields of a slot row in their order, comments left out.
+fn row_fields(path: &Path) -> Vec<String> {
+    let text = text(path);
+    let (_, rest) = text.split_once("pub struct SlotRow {").expect("a slot row");
+    let (fields, _) = rest.split_once('}').expect("the end of the fields");
+    fields.lines().map(str::trim).filter(|line| !line.is_empty() && !line.starts_with("//")).map(String::from).collect()
 }
 
 #[test]
@@ -37,8 +49,16 @@ fn declarations_are_the_signatures() {
     let declared = read(&host.join("src/ffi.rs"));
     let files = fs::read_dir(host.join("../crates/yokefathom/src")).expect("the crate");
     let proved: Signatures = files.flat_map(|file| read(&file.expect("a file").path())).collect();
-    assert!(declared.len() >= 18, "only {} declarations were found", declared.len());
+    assert!(declared.len() >= 19, "only {} declarations were found", declared.len());
     assert_eq!(drifted(&declared, &proved), [] as [&str; 0], "declared {declared:#?}, proved {proved:#?}");
+}
+
+#[test]
+fn a_slot_row_has_the_same_fields() {
+    let host = Path::new(env!("CARGO_MANIFEST_DIR"));
+    let lent = row_fields(&host.join("src/input.rs"));
+    assert_eq!(lent, ["pub offset: u32,", "pub label: u32,", "pub weak: u8,"]);
+    assert_eq!(lent, row_fields(&host.join("../crates/slot_rows/src/lib.rt")));
 }
 
 #[test]
