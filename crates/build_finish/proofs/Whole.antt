@@ -6,12 +6,12 @@ use mathlib.Core.Path.{_≡_, refl, sym, ap, _∙_}
 use mathlib.Core.Bool.{Bool, true, false, cond, true≢false}
 use mathlib.Core.List.{List, []}
 use lib.ListN.{length, take, length-map}
-use Rattle.columns.specs.Columns.{accepts}
+use Rattle.columns.specs.Columns.{accepts, kept}
 use Rattle.columns.proofs.Lists.{tab-length}
 use Rattle.rules.specs.Input.{Input, Schema, objectCount, classCount}
 use Rattle.rules.specs.Edges.{Parts, graph, offset, edges}
-use Rattle.rules.specs.Needs.{Lent, Rooms, shortOfParts}
-use Rattle.rules.specs.Verdict.{firstOf, at, counts, badLengths, badLimit, badDumped, plainCounts}
+use Rattle.rules.specs.Needs.{Lent, shortOfParts}
+use Rattle.rules.specs.Verdict.{firstOf, at, counts, plainCounts}
 use Rattle.rules.specs.Built.{CodedLeft, codedLeft, buildLeft}
 use Rattle.rules.proofs.Acceptance.{Passed, limits-good, class-good}
 use Rattle.rules.proofs.Laid.{build-meets, objects-are}
@@ -20,8 +20,8 @@ use Rattle.rules.proofs.Used.{refused-coded}
 use Rattle.rules.proofs.Even.{schema-lengths}
 use Rattle.code_stages.specs.Stages.{handOn, Ready}
 use Rattle.code_columns.proofs.Readying.{ready-parts}
-use Rattle.code_columns.specs.Finished.{PartsCoding, Hands, Finished, namingOf}
-use Rattle.build_rooms.specs.Stages.{kept, halfSays, early, leftOf, roomsOf, Laid}
+use Rattle.code_columns.specs.Finished.{Finished, namingOf}
+use Rattle.build_rooms.specs.Stages.{halfSays, early, leftOf, roomsOf, Laid}
 use Rattle.build_rooms.proofs.Compose.{built-left, edge-accepts, edge-passed}
 use Rattle.build_finish.specs.Rest.{offsetsUsed, labelsUsed, Rest}
 

@@ -2,12 +2,13 @@
 use Prim.Native.Nat.{ℕ, _+_}
 use mathlib.Core.List.{List}
 use lib.ListN.{take}
+use Rattle.columns.specs.Columns.{kept}
 use Rattle.rules.specs.Needs.{Lent}
 use Rattle.rules.specs.Built.{CodedLeft}
 use Rattle.labels.specs.Fields.{Naming}
 use Rattle.code_columns.specs.Stages.{Ready, Where}
 use Rattle.code_columns.specs.Finished.{PartsCoding}
-use Rattle.build_rooms.specs.Stages.{kept, Settled}
+use Rattle.build_rooms.specs.Stages.{Settled}
 
 -- the offsets of so many objects, and the labels of so many edges as an answer says, at the fronts of the work columns
 abbrev pub offsetsUsed : ℕ → List ℕ → List ℕ

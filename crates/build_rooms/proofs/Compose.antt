@@ -8,7 +8,7 @@ use mathlib.Core.List.{List, [], _∷_, _++_, append-assoc}
 use lib.Dec.{ltb}
 use lib.ListN.{length, length-append, drop}
 use Rattle.columns.specs.Lists.{_!_, anyOf}
-use Rattle.columns.specs.Columns.{zeros, over, cleared, accepts, leaves}
+use Rattle.columns.specs.Columns.{zeros, over, cleared, accepts, kept, leaves}
 use Rattle.columns.proofs.Lists.{tab-length}
 use Rattle.columns.proofs.Tests.{append-empty}
 use Rattle.columns.proofs.Written.{cleared-all, written-padded}
@@ -18,11 +18,11 @@ use Rattle.rules.specs.Edges.{Parts, graph, offset}
 use Rattle.rules.specs.Places.{placeCount}
 use Rattle.rules.specs.Account.{account, noAccount}
 use Rattle.rules.specs.Needs.{Rooms, Lent, buffer, needWeak, needRoots, needOffsets, needBases, shortLater, shortOfBuild, shortOfParts, Fits}
-use Rattle.rules.specs.Verdict.{firstOf, at, faults, checkSays, counts, buildSays, plainCounts}
-use Rattle.rules.specs.Built.{CodedLeft, codedLeft, BuildLeft, buildLeft}
+use Rattle.rules.specs.Verdict.{firstOf, at, faults, counts, buildSays, plainCounts}
+use Rattle.rules.specs.Built.{CodedLeft, codedLeft, buildLeft}
 use Rattle.rules.proofs.Acceptance.{Refuse, refuse-append, refuse-at, at-empty, Passed, passed, faults-refuse, build-says}
 use Rattle.rules.proofs.Finished.{weak-even}
-use Rattle.build_rooms.specs.Stages.{Early, earlyOf, shortEarly, roomSays, edgesSays, halfSays, kept, Settled, leftOf, roomsOf, Laid}
+use Rattle.build_rooms.specs.Stages.{Early, earlyOf, shortEarly, roomSays, edgesSays, halfSays, Settled, leftOf, roomsOf, Laid}
 use Rattle.build_rooms.proofs.Fitting.{same-short}
 
 -- The first fault refuses.

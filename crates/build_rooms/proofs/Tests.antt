@@ -8,14 +8,14 @@ use mathlib.Core.List.{List, [], _∷_, _++_}
 use lib.Dec.{ltb}
 use lib.ListN.{getD}
 use borrow.Author.Tests.{lt-ltb, le-ltb}
-use Rattle.columns.specs.Lists.{_!_, anyOf}
-use Rattle.columns.specs.Columns.{accepts, cleared}
+use Rattle.columns.specs.Lists.{anyOf}
+use Rattle.columns.specs.Columns.{accepts, cleared, kept}
 use Rattle.store.specs.Blocked.{blocksOf}
 use Rattle.rules.specs.declared.Refusal.{Refusal}
 use Rattle.rules.specs.Types.{refusalSays}
 use Rattle.rules.specs.Verdict.{firstOf, at}
 use Rattle.rules.proofs.Types.{refusal-refuses}
-use Rattle.build_rooms.specs.Stages.{Early, shortEarly, firstShort, roomSays, kept}
+use Rattle.build_rooms.specs.Stages.{Early, shortEarly, firstShort, roomSays}
 
 pub one-short : {a : ℕ} (n : ℕ) → a ≤ n → ltb a (n + 1) ≡ true
 one-short {a} n h = lt-ltb a (n + 1) (omega arith)

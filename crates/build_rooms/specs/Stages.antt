@@ -4,9 +4,9 @@ use mathlib.Core.Path.{_≡_}
 use mathlib.Core.Bool.{true, cond}
 use mathlib.Core.List.{List, [], _∷_, _++_}
 use lib.Dec.{ltb}
-use lib.ListN.{length, getD}
+use lib.ListN.{getD}
 use Rattle.columns.specs.Lists.{_!_}
-use Rattle.columns.specs.Columns.{over, cleared, accepts, Begins}
+use Rattle.columns.specs.Columns.{over, cleared, accepts, kept, Begins}
 use Rattle.store.specs.Blocked.{blocksOf}
 use Rattle.rules.specs.Input.{Input}
 use Rattle.rules.specs.Edges.{Parts, graph}
@@ -59,10 +59,6 @@ unfoldable pub halfSays : Input → Early → List ℕ
 halfSays x e =
     let p = graph x in
     firstOf (faults x ++ at 9 (shortEarly (placeCount x) (needWeak x) (needRoots x) (needOffsets p) e)) (plainCounts p)
-
--- how much of a column an answer keeps, by the place of its length among the values
-unfoldable pub kept : ℕ → List ℕ → ℕ
-kept i says = cond (accepts says) (says ! i) 0
 
 -- "After acceptance the unused end of every output column and all work space is zero; after any refusal of a build everything lent for writing is zero."
 pub record Settled (says ts ls fs ws rs wk : List ℕ) (a : List (List ℕ)) (ts′ ls′ fs′ ws′ rs′ wk′ : List ℕ) (a′ : List (List ℕ)) : Type 0 where

@@ -94,19 +94,19 @@ module _ (xs : List ℕ) (edges : ℕ) where
 module _ (names n l : ℕ) where
   pub label-field : l < LOADER → labelFault names n l ≡ leb names l
   unfolding labelFault anyOf allOf
-  label-field h = rw (lt-leb LOADER l h, lt-leb ARRAY-ELEMENT l (omega arith)) (go (lt-or-ge l names))
+  label-field h = rw (lt-leb LOADER l h, lt-leb ARRAY-ELEMENT l (omega arith), lt-ltb l 4294967296 (omega arith)) (go (lt-or-ge l names))
     where
-      go : (l < names) ⊎ (names ≤ l) → not (ltb l names || false) || false ≡ leb names l
+      go : (l < names) ⊎ (names ≤ l) → not ((ltb l names || false) && true) || false ≡ leb names l
       go (inl k) = rw (lt-ltb l names k, lt-leb names l k)
       go (inr k) = rw (le-ltb l names k, le-leb names l k)
 
   pub label-loader : LOADER ≤ l → l < ARRAY-ELEMENT → labelFault names n l ≡ false
   unfolding labelFault anyOf allOf
-  label-loader h k = rw (le-leb LOADER l h, lt-leb ARRAY-ELEMENT l k, or-true (ltb l names))
+  label-loader h k = rw (le-leb LOADER l h, lt-leb ARRAY-ELEMENT l k, or-true (ltb l names), lt-ltb l 4294967296 (omega arith))
 
-  pub label-element : ARRAY-ELEMENT ≤ l → labelFault names n l ≡ ltb (l - ARRAY-ELEMENT) n
+  pub label-element : ARRAY-ELEMENT ≤ l → l < 4294967296 → labelFault names n l ≡ ltb (l - ARRAY-ELEMENT) n
   unfolding labelFault anyOf allOf
-  label-element k = rw (le-leb LOADER l (omega arith), le-leb ARRAY-ELEMENT l k, or-true (ltb l names)) (go (ltb (l - ARRAY-ELEMENT) n))
+  label-element k w = rw (le-leb LOADER l (omega arith), le-leb ARRAY-ELEMENT l k, or-true (ltb l names), lt-ltb l 4294967296 w) (go (ltb (l - ARRAY-ELEMENT) n))
     where
       go : (b : Bool) → (b && true) || false ≡ b
       go true = refl

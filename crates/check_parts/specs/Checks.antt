@@ -5,11 +5,11 @@ use mathlib.Core.List.{List, [], _∷_, _++_}
 use lib.Dec.{leb, ltb}
 use lib.ListN.{length}
 use Rattle.columns.specs.Lists.{places, allOf, anyOf}
-use Rattle.rules.specs.Types.{LOADER, ARRAY-ELEMENT, isElement}
+use Rattle.rules.specs.Types.{ARRAY-ELEMENT, isElement}
 use Rattle.rules.specs.Edges.{Parts, pairLe}
 use Rattle.rules.specs.Needs.{objectsOf}
 use Rattle.rules.specs.Verdict.{badRoot}
-use Rattle.rules.specs.Parts.{inColumn, badLabels, badTargets, badPair}
+use Rattle.rules.specs.Parts.{inColumn, isNamed, badLabels, badTargets, badPair}
 
 -- the columns as one record; the checks do not read the dangling count
 abbrev pub handed : List ℕ → List ℕ → List ℕ → List ℕ → List ℕ → List ℕ → Parts
@@ -18,7 +18,7 @@ handed offsets targets labels weakFrom weakTo roots =
 
 -- "Labels below the name count, `LOADER` or elements; elements strictly rise within an object": label l, where an element's index is to be at least n.
 unfoldable pub labelFault : ℕ → ℕ → ℕ → Bool
-labelFault names n l = anyOf (not (anyOf (ltb l names ∷ leb LOADER l ∷ [])) ∷ allOf (isElement l ∷ ltb (l - ARRAY-ELEMENT) n ∷ []) ∷ [])
+labelFault names n l = anyOf (not (isNamed names l) ∷ allOf (isElement l ∷ ltb (l - ARRAY-ELEMENT) n ∷ []) ∷ [])
 
 -- "Weak sorted with both ends in range": the pair (a, b), behind the pair (a₀, b₀).
 unfoldable pub pairFault : ℕ → ℕ → ℕ → ℕ → ℕ → Bool

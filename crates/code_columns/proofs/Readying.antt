@@ -10,7 +10,7 @@ use lib.ListN.{length}
 use borrow.Author.Tests.{eqb-true, ltb-true, leb-true, ltb-false, not-false}
 use Rattle.columns.specs.Lists.{_!_, anyOf}
 use Rattle.columns.proofs.Lists.{lt-or-ge}
-use Rattle.columns.proofs.Tests.{none-of}
+use Rattle.columns.proofs.Tests.{none-of, each-of}
 use Rattle.columns.proofs.Sums.{part-at}
 use Rattle.rules.specs.Types.{LOADER, ARRAY-ELEMENT}
 use Rattle.rules.specs.Input.{Schema, classCount}
@@ -18,7 +18,8 @@ use Rattle.rules.specs.Edges.{Parts}
 use Rattle.rules.specs.Needs.{objectsOf}
 use Rattle.rules.specs.Verdict.{schemaLengths, limits, overLimit, badClass}
 use Rattle.rules.specs.Labels.{own}
-use Rattle.rules.proofs.Meets.{Meets, isNamed}
+use Rattle.rules.specs.Parts.{isNamed}
+use Rattle.rules.proofs.Meets.{Meets}
 use Rattle.labels.specs.Fields.{Ranges}
 use Rattle.need_escapes.specs.Uncoded.{KnownLabels}
 use Rattle.code_stages.specs.Stages.{Ready}
@@ -57,7 +58,7 @@ locate offsets e (suc m) a b = go (lt-or-ge e (offsets ! m)) (locate offsets e m
 -- PARTS: "labels below the name count, `LOADER` or elements"
 named-label : (names l : ℕ) → isNamed names l ≡ true → (l < names) ⊎ ((l ≡ LOADER) ⊎ (ARRAY-ELEMENT ≤ l))
 unfolding anyOf
-named-label names l e = go (ltb l names) refl (leb LOADER l) refl e
+named-label names l e = go (ltb l names) refl (leb LOADER l) refl (each-of _ e 0)
   where
     high : LOADER ≤ l → (l < names) ⊎ ((l ≡ LOADER) ⊎ (ARRAY-ELEMENT ≤ l))
     high h = ⊎-elim (λ m. inr (inl (omega arith))) (λ m. inr (inr m)) (lt-or-ge l ARRAY-ELEMENT)

@@ -31,6 +31,10 @@ accepts says = eqb (says ! 0) 0
 unfoldable pub leaves : List ℕ → List ℕ → ℕ → List ℕ
 leaves says xs m = cond (accepts says) (padded xs m) (zeros m)
 
+-- how much of a column an answer keeps, by the place of its length among the answer's values
+unfoldable pub kept : ℕ → List ℕ → ℕ
+kept i says = cond (accepts says) (says ! i) 0
+
 -- a column that begins with xs
 abbrev pub Begins : List ℕ → List ℕ → Type 0
 Begins xs d = take (length xs) d ≡ xs

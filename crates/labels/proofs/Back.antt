@@ -66,21 +66,23 @@ module _ (d : Coded) (rise : Rises (d .escapeAt)) (same : length (d .escapeAt) �
   next-back e zero h = refl
   next-back e (suc k) h = rw (next-back e k (λ j l. h j (omega arith)), step-back e k (h k (omega arith)))
 
+  -- a label, where it and the edges before it read
+  pub walk-back : (e k : ℕ) → ((j : ℕ) → j ≤ k → labelReads d e j ≡ true) → walkBack d e k ≡ exactLabel d e k ∷ []
+  unfolding walkBack exactLabel
+  walk-back e k h = rw (next-back e k (λ j l. h j (omega arith))) (step-back e k (h k (omega arith)))
+
   -- "The exact label": an element's by the edges before it, a field's by its own code
   field-step : (e k n m : ℕ) → leb 32768 (d .codes ! (e + k)) ≡ false → stepBack d e k n ≡ stepBack d e k m
   unfolding codeBack
   field-step e k n m f = rw f
 
   pub exact-back : (e k : ℕ) → ((j : ℕ) → j ≤ k → labelReads d e j ≡ true) → exactBack d e k ≡ exactLabel d e k ∷ []
-  unfolding exactBack walkBack exactLabel
+  unfolding exactBack exactLabel
   exact-back e k h = go (leb 32768 (d .codes ! (e + k))) refl
     where
-      last : stepBack d e k (expectedAt d e k) ≡ readLabel d (e + k) (expectedAt d e k) (d .codes ! (e + k)) ∷ []
-      last = step-back e k (h k (omega arith))
-
       go : (b : Bool) → leb 32768 (d .codes ! (e + k)) ≡ b → exactBack d e k ≡ exactLabel d e k ∷ []
-      go true q = rw (q, next-back e k (λ j l. h j (omega arith))) last
-      go false q = rw q (field-step e k 0 (expectedAt d e k) q ∙ last)
+      go true q = rw q (walk-back e k h)
+      go false q = rw q (field-step e k 0 (expectedAt d e k) q ∙ step-back e k (h k (omega arith)))
 
   -- "`coarse` gives every element the label `ARRAY_ELEMENT`."
   pub coarse-back : (e k : ℕ) → labelReads d e k ≡ true → coarseBack d (e + k) ≡ coarseLabel d e k ∷ []

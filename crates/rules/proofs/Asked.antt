@@ -10,11 +10,11 @@ use lib.ListN.{length, length-map}
 use lib.Seq.{ext-getD}
 use borrow.Author.Tests.{eq-eqb, le-leb, lt-leb, le-ltb, ltb-true}
 use Rattle.columns.specs.Lists.{_!_, allOf, tab, part}
-use Rattle.columns.specs.Columns.{accepts}
+use Rattle.columns.specs.Columns.{accepts, leaves}
 use Rattle.columns.specs.Ranks.{Rises, rank}
 use Rattle.columns.proofs.Lists.{tab-length, tab-at, places-rise}
 use Rattle.columns.proofs.Sums.{tab-ext, map-tab, part-at, part-length}
-use Rattle.columns.proofs.Tests.{none-any, no-places, all-fails}
+use Rattle.columns.proofs.Tests.{each-of, none-any, no-places, all-fails}
 use Rattle.store.specs.Blocked.{blocked, readBack, isLow, isLong, firstLow, aboveAt}
 use Rattle.store.proofs.Theorems.{reads-back}
 use Rattle.rules.specs.Input.{Schema}
@@ -25,11 +25,10 @@ use Rattle.rules.specs.Verdict.{falls}
 use Rattle.rules.specs.Parts.{degree, noObject, pairAt, unsorted}
 use Rattle.rules.specs.Questions.{Columns, columnsOf, objectsIn, offsetAt, edgesIn, edgeAt, edgesRead, edgesAt, rises, labelReads, readsBack}
 use Rattle.rules.specs.Questions.{weakReads, weakRead, weakIn, plainly, asked, labelAt, exactIn, coarseIn, labelIn, fieldIn, referentIn, span}
-use Rattle.rules.specs.Questions.{edgeCount}
-use Rattle.rules.specs.Questions.{exactOf, coarseOf, labelOf, field, weakReferents, referent}
+use Rattle.rules.specs.Questions.{edgeCount, exactOf, coarseOf, labelOf, field, weakReferents, referent, intoSays, edgesInto, plainEdges, objectEdges}
 use Rattle.rules.proofs.Meets.{Meets}
 use Rattle.rules.proofs.Weak.{weak-part, pair-climbs}
-use Rattle.rules.proofs.Codes.{offset-mono, offset-within, own-at, edge-in, codes-count, read-labels, label-good, fields-few}
+use Rattle.rules.proofs.Codes.{offset-mono, offset-within, edge-in, codes-count, read-labels, label-good, fields-few}
 
 -- a list that rises, as a test
 rises-test : (xs : List ℕ) → Rises xs → rises xs ≡ true
@@ -49,6 +48,23 @@ answered c m o reads a b e h g = rw e (go (ltb o m) refl)
     go : (t : Bool) → ltb o m ≡ t → cond t (cond reads a (12 ∷ o ∷ [])) (11 ∷ o ∷ []) ≡ cond t b (11 ∷ o ∷ [])
     go true t = rw (h (ltb-true o m t)) (g (ltb-true o m t))
     go false t = refl
+
+-- An answer that accepts is of an object that exists, and what it leaves asks for the edges only then.
+pub plain-exists : (m o : ℕ) (a : List ℕ) → accepts (plainly m o a) ≡ true → o < m
+unfolding accepts
+plain-exists m o a = go (ltb o m) refl
+  where
+    go : (t : Bool) → ltb o m ≡ t → accepts (cond t a (11 ∷ o ∷ [])) ≡ true → o < m
+    go true t h = ltb-true o m t
+    go false t h = absurd (false≢true h)
+
+pub edges-same : (says : List ℕ) (es es′ : List Edge) (a b : ℕ) → (accepts says ≡ true → es ≡ es′) → edgesInto says es a b ≡ edgesInto says es′ a b
+unfolding edgesInto leaves
+edges-same says es es′ a b h = go (accepts says) refl
+  where
+    go : (t : Bool) → accepts says ≡ t → edgesInto says es a b ≡ edgesInto says es′ a b
+    go true t = ap (λ (es : List Edge). edgesInto says es a b) (h t)
+    go false t = rw t
 
 -- "Its targets are a part of the target column": the targets of the edges read, wherever the part ends within the column.
 pub targets-part : (c : Columns) (o : ℕ) → offsetAt c (suc o) ≤ length (c .targets)
@@ -118,7 +134,7 @@ module _ (s : Schema) (p : Parts) (law : Meets (s .names) p) (few : length (p .l
       each k l = rw (offset-is o (omega arith), label-back o k h l)
 
   -- Every object reads back, so 12 is never given.
-  module _ (wide : (e : ℕ) → e < length (p .labels) → p .labels ! e < 4294967296) (o : ℕ) (h : o < m) where
+  module _ (o : ℕ) (h : o < m) where
     target-in : (k : ℕ) → k < degree (p .offsets) o → noObject m (c .targets) (p .offsets ! o + k) ≡ false
     unfolding columnsOf
     target-in k l = lt-leb _ _ (law .targets (p .offsets ! o + k) (omega (arith, edge-in (s .names) p law o k h l, law .counted)))
@@ -126,8 +142,7 @@ module _ (s : Schema) (p : Parts) (law : Meets (s .names) p) (few : length (p .l
     label-reads : (k : ℕ) → k < degree (p .offsets) o → labelReads (c .labels) (p .offsets ! o) k ≡ true
     unfolding columnsOf labelColumns
     label-reads k l =
-        label-good (s .names) p law fs (fields-few s p) o k h l
-        (rw (own-at (s .names) p law o k l) (wide (p .offsets ! o + k) (edge-in (s .names) p law o k h l)))
+        label-good (s .names) p law fs (fields-few s p) o k h l (ltb-true _ _ (each-of _ (law .named o k h l) 1))
 
     long-rises : rises (c .offsets .longAt) ≡ true
     unfolding columnsOf blocked
@@ -189,9 +204,9 @@ module _ (s : Schema) (p : Parts) (law : Meets (s .names) p) (few : length (p .l
         (λ i l. pair-climbs (pairAt (p .weakFrom) (p .weakTo) i) (pairAt (p .weakFrom) (p .weakTo) (suc i)) (law .weak-sorted i l))
 
   -- Each question is the same question on the plain columns; none answers 12.
-  module _ (wide : (e : ℕ) → e < length (p .labels) → p .labels ! e < 4294967296) (o : ℕ) where
+  module _ (o : ℕ) where
     asks : (a b : List ℕ) → (o < m → a ≡ b) → asked c o (readsBack c o) a ≡ plainly m o b
-    asks a b e = answered c m o (readsBack c o) a b objects-same (reads wide o) e
+    asks a b e = answered c m o (readsBack c o) a b objects-same (reads o) e
 
     pub span-plain : span c o ≡ plainly m o (0 ∷ p .offsets ! o ∷ p .offsets ! suc o ∷ [])
     unfolding span
@@ -217,6 +232,12 @@ module _ (s : Schema) (p : Parts) (law : Meets (s .names) p) (few : length (p .l
     unfolding field
     field-plain l = asks _ _ (λ h. rw (edges-back o h))
 
+    pub edges-laid : (a b : ℕ) → objectEdges c o a b ≡ plainEdges m o (edgesAt p o) a b
+    unfolding objectEdges plainEdges
+    edges-laid a b =
+        ap (λ (says : List ℕ). edgesInto says (edgesRead c o) a b) (asks _ _ (λ h. ap (λ (es : List Edge). intoSays es a b) (edges-back o h)))
+        ∙ edges-same (plainly m o (intoSays (edgesAt p o) a b)) (edgesRead c o) (edgesAt p o) a b (λ t. edges-back o (plain-exists m o _ t))
+
     module _ (even : length (p .weakFrom) ≡ length (p .weakTo)) where
       pub weak-plain : weakReferents c o ≡ plainly m o (0 ∷ rank (p .weakFrom) o ∷ rank (p .weakFrom) (suc o) ∷ [])
       unfolding weakReferents columnsOf
@@ -224,4 +245,4 @@ module _ (s : Schema) (p : Parts) (law : Meets (s .names) p) (few : length (p .l
 
       pub referent-plain : (l : ℕ) → referent c o l ≡ plainly m o (0 ∷ referentIn (edgesAt p o) (weakIn (p .weakFrom) (p .weakTo) o) l)
       unfolding referent allOf
-      referent-plain l = answered c m o _ _ _ objects-same (λ h. rw (reads wide o h, weak-reads even)) (λ h. rw (edges-back o h, weak-back even o))
+      referent-plain l = answered c m o _ _ _ objects-same (λ h. rw (reads o h, weak-reads even)) (λ h. rw (edges-back o h, weak-back even o))

@@ -17,16 +17,15 @@ use Rattle.rules.specs.Edges.{Edge, edgesOf, weakTargets, offset, pairsO
 use Rattle.rules.specs.Needs.{objectsOf}
 use Rattle.rules.specs.Demand.{held, lost}
 use Rattle.rules.specs.Questions.{Columns, columnsOf, edgesAt, edgesRead, readsBack, weakReads, weakRead, weakIn, plainly, exactIn, coarseIn, labelIn}
-use Rattle.rules.specs.Questions.{labelAt}
 use Rattle.rules.specs.Questions.{fieldIn, smallest, orSmallest, referentIn, span, edgeCount, exactOf, coarseOf, labelOf, field, weakReferents}
-use Rattle.rules.specs.Questions.{referent}
+use Rattle.rules.specs.Questions.{referent, labelAt, intoSays, edgesInto, plainEdges, objectEdges}
 use Rattle.rules.proofs.Acceptance.{Passed}
 use Rattle.rules.proofs.Demand.{offset-at, held-edges, weak-of}
 use Rattle.rules.proofs.Passes.{edges-few}
 use Rattle.rules.proofs.Weak.{mine, mine-append, mine-own, smallest-sort}
-use Rattle.rules.proofs.Laid.{build-meets, label-wide, objects-are, edges-plain}
+use Rattle.rules.proofs.Laid.{build-meets, objects-are, edges-plain}
 use Rattle.rules.proofs.Asked.{reads, edges-back, weak-reads, weak-back, span-plain, count-plain, exact-plain, coarse-plain, label-plain, field-plain}
-use Rattle.rules.proofs.Asked.{weak-plain, referent-plain}
+use Rattle.rules.proofs.Asked.{weak-plain, referent-plain, plain-exists, edges-same, edges-laid}
 
 module _ (x : Input) where
   abbrev n : ℕ
@@ -70,7 +69,7 @@ module _ (x : Input) where
 
     -- "On columns that an accepted build left, 12 is never given": every object reads back, and so do the weak pairs.
     pub all-read : (o : ℕ) → o < n → readsBack c o ≡ true
-    all-read o l = reads (x .schema) (graph x) (build-meets x h) labels-few (label-wide x h) o (omega (arith, objects-are x))
+    all-read o l = reads (x .schema) (graph x) (build-meets x h) labels-few o (omega (arith, objects-are x))
 
     pub all-weak-read : weakReads c ≡ true
     all-weak-read = weak-reads (x .schema) (graph x) (build-meets x h) labels-few weak-even
@@ -94,7 +93,7 @@ module _ (x : Input) where
 
     module _ (o : ℕ) where
       pub span-asked : span c o ≡ plainly n o (0 ∷ offset x o ∷ offset x (suc o) ∷ [])
-      span-asked = span-plain (x .schema) (graph x) (build-meets x h) labels-few (label-wide x h) o ∙ rw (objects-are x) (go (ltb o n) refl)
+      span-asked = span-plain (x .schema) (graph x) (build-meets x h) labels-few o ∙ rw (objects-are x) (go (ltb o n) refl)
         where
           go : (b : Bool) → ltb o n ≡ b
               → cond b (0 ∷ graph x .offsets ! o ∷ graph x .offsets ! suc o ∷ []) (11 ∷ o ∷ []) ≡ cond b (0 ∷ offset x o ∷ offset x (suc o) ∷ []) (11 ∷ o ∷ [])
@@ -102,24 +101,31 @@ module _ (x : Input) where
           go false e = refl
 
       pub count-asked : edgeCount c o ≡ plainly n o (0 ∷ length (edgesOf x o) ∷ [])
-      count-asked = count-plain (x .schema) (graph x) (build-meets x h) labels-few (label-wide x h) o ∙ plain-edges o (λ es. 0 ∷ length es ∷ [])
+      count-asked = count-plain (x .schema) (graph x) (build-meets x h) labels-few o ∙ plain-edges o (λ es. 0 ∷ length es ∷ [])
 
       pub exact-asked : (k : ℕ) → exactOf c o k ≡ plainly n o (exactIn (edgesOf x o) k)
-      exact-asked k = exact-plain (x .schema) (graph x) (build-meets x h) labels-few (label-wide x h) o k ∙ plain-edges o (λ es. exactIn es k)
+      exact-asked k = exact-plain (x .schema) (graph x) (build-meets x h) labels-few o k ∙ plain-edges o (λ es. exactIn es k)
 
       pub coarse-asked : (k : ℕ) → coarseOf c o k ≡ plainly n o (coarseIn (edgesOf x o) k)
-      coarse-asked k = coarse-plain (x .schema) (graph x) (build-meets x h) labels-few (label-wide x h) o k ∙ plain-edges o (λ es. coarseIn es k)
+      coarse-asked k = coarse-plain (x .schema) (graph x) (build-meets x h) labels-few o k ∙ plain-edges o (λ es. coarseIn es k)
 
       pub label-asked : (t : ℕ) → labelOf c o t ≡ plainly n o (0 ∷ labelIn (edgesOf x o) t)
-      label-asked t = label-plain (x .schema) (graph x) (build-meets x h) labels-few (label-wide x h) o t ∙ plain-edges o (λ es. 0 ∷ labelIn es t)
+      label-asked t = label-plain (x .schema) (graph x) (build-meets x h) labels-few o t ∙ plain-edges o (λ es. 0 ∷ labelIn es t)
 
       pub field-asked : (l : ℕ) → field c o l ≡ plainly n o (0 ∷ fieldIn (edgesOf x o) l)
-      field-asked l = field-plain (x .schema) (graph x) (build-meets x h) labels-few (label-wide x h) o l ∙ plain-edges o (λ es. 0 ∷ fieldIn es l)
+      field-asked l = field-plain (x .schema) (graph x) (build-meets x h) labels-few o l ∙ plain-edges o (λ es. 0 ∷ fieldIn es l)
+
+      pub edges-asked : (a b : ℕ) → objectEdges c o a b ≡ plainEdges n o (edgesOf x o) a b
+      unfolding plainEdges
+      edges-asked a b =
+          edges-laid (x .schema) (graph x) (build-meets x h) labels-few o a b
+          ∙ ap (λ (says : List ℕ). edgesInto says (edgesAt (graph x) o) a b) (plain-edges o (λ es. intoSays es a b))
+          ∙ edges-same (plainly n o (intoSays (edgesOf x o) a b)) (edgesAt (graph x) o) (edgesOf x o) a b (λ t. edges-plain x o (plain-exists n o _ t))
 
       -- The rows answered hold the targets of o's weak pairs.
       pub weak-asked : weakReferents c o ≡ plainly n o (0 ∷ rank (graph x .weakFrom) o ∷ rank (graph x .weakFrom) (suc o) ∷ [])
       weak-asked =
-          weak-plain (x .schema) (graph x) (build-meets x h) labels-few (label-wide x h) o weak-even
+          weak-plain (x .schema) (graph x) (build-meets x h) labels-few o weak-even
           ∙ ap (λ (m : ℕ). plainly m o (0 ∷ rank (graph x .weakFrom) o ∷ rank (graph x .weakFrom) (suc o) ∷ [])) (objects-are x)
 
       pub weak-rows : weakRead c o ≡ weakIn (graph x .weakFrom) (graph x .weakTo) o
@@ -128,7 +134,7 @@ module _ (x : Input) where
       -- "`referent` tries the field, then the smallest weak target": the smallest of all that the input's weak slots hold.
       pub referent-asked : (l : ℕ) → referent c o l ≡ plainly n o (0 ∷ referentIn (edgesOf x o) (weakTargets x o) l)
       referent-asked l =
-          referent-plain (x .schema) (graph x) (build-meets x h) labels-few (label-wide x h) o weak-even l
+          referent-plain (x .schema) (graph x) (build-meets x h) labels-few o weak-even l
           ∙ plain-edges o (λ es. 0 ∷ referentIn es (weakIn (graph x .weakFrom) (graph x .weakTo) o) l) ∙ go (ltb o n) refl
         where
           same : (ts vs ws : List ℕ) → smallest vs ≡ smallest ws → orSmallest ts vs ≡ orSmallest ts ws

@@ -1,5 +1,5 @@
 -- What an accepted `from_parts` gives: its columns meet PARTS, and over what it left every object reads back too. Assumes nothing.
-use Prim.Native.Nat.{ℕ, _≤_, _<_}
+use Prim.Native.Nat.{ℕ, _^_, _≤_, _<_}
 use native.Mathlib.Omega.{arith}
 use mathlib.Core.Path.{_≡_, refl, sym, ap, _∙_}
 use mathlib.Core.Bool.{true, false, false≢true}
@@ -16,7 +16,7 @@ use Rattle.rules.specs.Needs.{Lent, objectsOf, labelColumns, shortOfPart
 use Rattle.rules.specs.Verdict.{firstOf, at, once, differs, schemaLengths, overLimit, badClass, overPlaces, counts}
 use Rattle.rules.specs.Parts.{inColumn, partsFaults, handedFaults, partsSays}
 use Rattle.rules.specs.Questions.{columnsOf, readsBack}
-use Rattle.rules.specs.Built.{codedLeft, usedBlocks, usedLabels, partsLeft}
+use Rattle.rules.specs.Built.{codedLeft, usedBlocks, usedLabels, usedParts, partsLeft}
 use Rattle.rules.proofs.Acceptance.{Refuse, refuse-append, refuse-at, at-empty, once-empty}
 use Rattle.rules.proofs.Meets.{Meets, meets}
 use Rattle.rules.proofs.Asked.{reads}
@@ -83,9 +83,12 @@ module _ (s : Schema) (p : Parts) (l : Lent) (ok : accepts (partsSays s p l) ≡
   unfolding partsSays
   parts-says = ap (λ (fs : List (List ℕ)). firstOf fs (counts s p)) nothing-wrong
 
-  -- Over the columns of an accepted `from_parts`, labels of 32 bits, 12 is never given either.
-  pub parts-read : ((e : ℕ) → e < length (p .labels) → p .labels ! e < 4294967296) → (o : ℕ) → o < objectsOf p → readsBack (columnsOf s p) o ≡ true
-  parts-read wide o h = reads s p (parts-passed .parts) (omega (arith, parts-passed .labels)) wide o h
+  -- Over the columns of an accepted `from_parts` 12 is never given either.
+  pub parts-few : length (p .labels) < 2 ^ 64
+  parts-few = omega (arith, parts-passed .labels)
+
+  pub parts-read : (o : ℕ) → o < objectsOf p → readsBack (columnsOf s p) o ≡ true
+  parts-read o h = reads s p (parts-passed .parts) parts-few o h
 
   -- The used parts of what it left, at the lengths that it returned, are the coded columns.
   said : (i : ℕ) → partsSays s p l ! i ≡ counts s p ! i
@@ -99,3 +102,7 @@ module _ (s : Schema) (p : Parts) (l : Lent) (ok : accepts (partsSays s p l) ≡
   pub parts-labels : usedLabels (partsLeft s p l .says ! 1) (partsLeft s p l .says ! 5) (partsLeft s p l .says ! 6) (partsLeft s p l .coded) ≡ labelColumns s p
   unfolding partsLeft counts
   parts-labels = rw (said 1, said 5, said 6, parts-passed .parts .counted) (used-labels (partsSays s p l) ok s p l (parts-passed .parts))
+
+  pub used-parts : usedParts p (partsLeft s p l) ≡ columnsOf s p
+  unfolding usedParts columnsOf
+  used-parts = rw (parts-blocks, parts-labels)

@@ -10,7 +10,7 @@ use lib.Dec.{eqb, leb, ltb}
 use lib.ListN.{length, getD, length-map}
 use lib.Seq.{ext-getD}
 use borrow.Author.Tests.{le-leb, lt-ltb, leb-false, ltb-false, eq-eqb}
-use Rattle.columns.specs.Lists.{_!_, collect, tab, flat, total, part, find, sort, anyOf}
+use Rattle.columns.specs.Lists.{_!_, collect, tab, flat, total, part, find, sort, allOf, anyOf}
 use Rattle.columns.proofs.Lists.{tab-length, tab-at, map-at}
 use Rattle.columns.proofs.Sums.{flat-append, map-append, map-collect, length-collect, total-ext, part-collect, part-at}
 use Rattle.columns.proofs.Every.{Every, every-append, every-collect, every-flat, every-places, every-tab, every-map, every-index, every-sort, every-distinct}
@@ -24,13 +24,13 @@ use Rattle.rules.specs.Edges.{refEdge, refWeak, refs, slotRefs, otherRef
 use Rattle.rules.specs.Edges.{weakTargets, edges, offset, Pair, pairLe, pairsOf, weakPairs, distinctRoots, graph}
 use Rattle.rules.specs.Labels.{expected, own}
 use Rattle.rules.specs.Needs.{objectsOf}
-use Rattle.rules.specs.Parts.{degree, pairAt, partsFaults}
+use Rattle.rules.specs.Parts.{degree, isNamed, pairAt, partsFaults}
 use Rattle.rules.specs.Questions.{edgesAt}
 use Rattle.rules.proofs.Acceptance.{Passed, names-few, slot-small, static-name, elements-few, root-in}
 use Rattle.rules.proofs.Slots.{read-le}
 use Rattle.rules.proofs.Demand.{offset-at, degree-of}
 use Rattle.rules.proofs.Rising.{Rising, afterAll, rising-append, after-append, Fields, fields-rise, fields-after, rising-at}
-use Rattle.rules.proofs.Meets.{Meets, isNamed, no-faults}
+use Rattle.rules.proofs.Meets.{Meets, no-faults}
 
 -- one more reference, of element n
 next-rises : (b : List ℕ) (n : ℕ) (u : Outcome) → Rising 0 b × (afterAll 0 b ≤ n)
@@ -247,22 +247,14 @@ module _ (x : Input) where
   -- An accepted build meets PARTS.
   module _ (h : Passed x) where
     label-named : (o k : ℕ) → o < n → k < length (edgesOf x o) → isNamed (x .schema .names) (map label (edgesOf x o) ! k) ≡ true
-    unfolding anyOf
+    unfolding anyOf allOf
     label-named o k l m =
         every-at (λ l. isNamed (x .schema .names) l ≡ true) 0 (map label (edgesOf x o))
-        (labels-are h (λ l. isNamed (x .schema .names) l ≡ true) (λ l q. rw (lt-ltb l (x .schema .names) q))
-        (rw (le-leb LOADER LOADER (omega arith)) (or-true (ltb LOADER (x .schema .names))))
-        (λ k q. rw (le-leb LOADER (ARRAY-ELEMENT + k) (omega arith)) (or-true (ltb (ARRAY-ELEMENT + k) (x .schema .names)))) o l)
+        (labels-are h (λ l. isNamed (x .schema .names) l ≡ true)
+        (λ l q. rw (lt-ltb l (x .schema .names) q, lt-ltb l 4294967296 (omega (arith, names-few x (h .sound)))))
+        (rw (le-leb LOADER LOADER (omega arith), or-true (ltb LOADER (x .schema .names)), lt-ltb LOADER 4294967296 (omega arith)))
+        (λ k q. rw (le-leb LOADER (ARRAY-ELEMENT + k) (omega arith), or-true (ltb (ARRAY-ELEMENT + k) (x .schema .names)), lt-ltb (ARRAY-ELEMENT + k) 4294967296 (omega arith))) o l)
         k (omega (arith, length-map (edgesOf x o) label))
-
-    pub label-wide : (e : ℕ) → e < length (graph x .labels) → graph x .labels ! e < 4294967296
-    unfolding graph edges
-    label-wide e l = every-at (λ l. l < 4294967296) 0 (graph x .labels) wide e l
-      where
-        wide : Every (λ l. l < 4294967296) (map label (collect (edgesOf x) n))
-        wide = rw (map-collect label (edgesOf x) n)
-            (every-collect (λ l. l < 4294967296) (λ o. map label (edgesOf x o)) n
-            (labels-are h (λ l. l < 4294967296) (λ l q. omega (arith, names-few x (h .sound))) (omega arith) (λ k q. omega arith)))
 
     rising-own : (o k : ℕ) → o < n → k < length (edgesOf x o) → isElement (map label (edgesOf x o) ! k) ≡ true
         → expected (map label (edgesOf x o)) k ≤ map label (edgesOf x o) ! k - ARRAY-ELEMENT

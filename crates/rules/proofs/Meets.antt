@@ -4,21 +4,18 @@ use native.Mathlib.Omega.{arith}
 use mathlib.Core.Path.{_≡_, refl, ap}
 use mathlib.Core.Bool.{Bool, true, false, cond, not, false≢true}
 use mathlib.Core.List.{List, [], _∷_, map}
-use lib.Dec.{eqb, leb, ltb}
+use lib.Dec.{eqb, ltb}
 use lib.ListN.{length}
 use borrow.Author.Tests.{eqb-true, eqb-false, leb-false, ltb-false, lt-ltb, le-ltb, lt-leb, eq-eqb, ne-eqb, not-false}
 use Rattle.columns.specs.Lists.{_!_, places, allOf, anyOf}
 use Rattle.columns.proofs.Tests.{none-of, second-fails, all-fails, append-empty, collect-none, collect-empty, map-empty, no-places, places-none}
-use Rattle.rules.specs.Types.{LOADER, ARRAY-ELEMENT, isElement}
+use Rattle.rules.specs.Types.{ARRAY-ELEMENT, isElement}
 use Rattle.rules.specs.Edges.{Parts, pairLe}
 use Rattle.rules.specs.Labels.{expected, own}
 use Rattle.rules.specs.Needs.{objectsOf}
 use Rattle.rules.specs.Verdict.{once, badRoot}
-use Rattle.rules.specs.Parts.{inColumn, degree, below, badOffsets, badLabel, badLabels, noObject, badTargets, pairAt, badPair, partsFaults}
+use Rattle.rules.specs.Parts.{inColumn, degree, below, badOffsets, isNamed, badLabel, badLabels, noObject, badTargets, pairAt, badPair, partsFaults}
 use Rattle.rules.proofs.Acceptance.{once-empty}
-
-abbrev pub isNamed : ℕ → ℕ → Bool
-isNamed names l = anyOf (ltb l names ∷ leb LOADER l ∷ [])
 
 pub record Meets (names : ℕ) (p : Parts) : Type 0 where
   pub some : 0 < length (p .offsets)

@@ -30,8 +30,10 @@ use Rattle.rules.specs.declared.Referent.{Referent}
 use Rattle.rules.specs.declared.Referent.the-variants as Referent
 use Rattle.rules.specs.declared.WeakReferents.{WeakReferents}
 use Rattle.rules.specs.declared.WeakReferents.the-variants as WeakReferents
+use Rattle.rules.specs.declared.ObjectEdges.{ObjectEdges}
+use Rattle.rules.specs.declared.ObjectEdges.the-variants as ObjectEdges
 use Rattle.rules.specs.Types.{refusalSays, checkedSays, builtSays, spanSays, edgeCountSays, coarseSays, exactSays, labelOfSays, fieldSays, referentSays}
-use Rattle.rules.specs.Types.{weakSays}
+use Rattle.rules.specs.Types.{weakSays, objectEdgesSays}
 use Rattle.rules.specs.Questions.{Promised}
 
 pub refusal-refuses : (r : Refusal) → accepts (refusalSays r) ≡ false
@@ -212,6 +214,21 @@ weak-back (WeakReferents.Columns o) = refl
 
 pub one-weak : (r r′ : WeakReferents) → weakSays r ≡ weakSays r′ → r ≡ r′
 one-weak = same weakSays weakFrom weak-back
+
+objectEdgesFrom : List ℕ → ObjectEdges
+objectEdgesFrom a =
+    cond (eqb (a ! 0) 0) (ObjectEdges.Edges (a ! 1))
+    (cond (eqb (a ! 0) 9) (ObjectEdges.Room (a ! 1)) (cond (eqb (a ! 0) 11) (ObjectEdges.Index (a ! 1)) (ObjectEdges.Columns (a ! 1))))
+
+objectEdges-back : (r : ObjectEdges) → objectEdgesFrom (objectEdgesSays r) ≡ r
+unfolding objectEdgesFrom
+objectEdges-back (ObjectEdges.Edges n) = refl
+objectEdges-back (ObjectEdges.Room k) = refl
+objectEdges-back (ObjectEdges.Index i) = refl
+objectEdges-back (ObjectEdges.Columns o) = refl
+
+pub one-objectEdges : (r r′ : ObjectEdges) → objectEdgesSays r ≡ objectEdgesSays r′ → r ≡ r′
+one-objectEdges = same objectEdgesSays objectEdgesFrom objectEdges-back
 
 -- Where a question's answer is not COLUMNS, what it promises is that answer alone.
 pub one-promise : {o : ℕ} {says says′ answer : List ℕ} → eqb (answer ! 0) 12 ≡ false → Promised o says answer → Promised o says′ answer → says ≡ says′

@@ -24,7 +24,7 @@ use Rattle.rules.specs.Verdict.{badFind, badDumped, badCode, badEscape, 
 use Rattle.rules.specs.Parts.{inColumn, badOffsets, badLabel, badLabels, badTargets, badPair, partsFaults}
 use Rattle.rules.specs.Built.{codedLeft, buildLeft}
 use Rattle.rules.specs.Questions.{labelAt, labelIn, fieldIn, columnsOf, edgesRead, rises, labelReads, readsBack, weakRead, weakReads, asked, span}
-use Rattle.rules.specs.Questions.{edgeCount, exactOf, coarseOf, labelOf, field, weakReferents, referent}
+use Rattle.rules.specs.Questions.{edgeCount, exactOf, coarseOf, labelOf, field, weakReferents, referent, intoSays, edgesInto, objectEdges}
 use Rattle.rules.specs.Worked.{wrong, table, graphCases, enough, empty}
 
 pub worked : wrong table ≡ []
@@ -36,5 +36,5 @@ unfolding table graphCases enough empty tab places allOf anyOf any over padded a
     needEscapes shortLater shortOfBuild at schemaLengths routeLengths badLengths limits overLimit badSize badLimit badObject badSlot badStatic badClass badFind
     badDumped badCode badEscape badCopied badPart badSpan faults counts buildSays inColumn badOffsets badLabel badLabels badTargets badPair partsFaults
     codedLeft buildLeft labelAt labelIn fieldIn columnsOf edgesRead rises labelReads readsBack weakRead weakReads asked span edgeCount exactOf coarseOf labelOf
-    field weakReferents referent trailingZeros
+    field weakReferents referent intoSays edgesInto objectEdges trailingZeros
 worked = refl

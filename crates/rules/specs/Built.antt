@@ -111,6 +111,16 @@ usedColumns objects b = record {
   weakTo = take (b .says ! 2) (b .weakTo);
 }
 
+-- Behind `from_parts` the targets and the weak pairs are those that were handed over.
+unfoldable pub usedParts : Parts → PartsLeft → Columns
+usedParts p b = record {
+  offsets = usedBlocks (length (p .offsets)) (b .says ! 4) (b .coded);
+  targets = p .targets;
+  labels = usedLabels (b .says ! 1) (b .says ! 5) (b .says ! 6) (b .coded);
+  weakFrom = p .weakFrom;
+  weakTo = p .weakTo;
+}
+
 -- "A host may lend its slots as rows of offset, label and weak"; "filling from slot rows only with ROOM 17. Their outputs are zero after a refusal."
 pub record SlotsLeft : Type 0 where
   pub says : List ℕ

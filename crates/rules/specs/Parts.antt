@@ -30,11 +30,15 @@ badOffsets offsets edges =
     ++ places (below offsets) (length offsets)
     ++ cond (eqb (offsets ! last) edges) [] (last ∷ [])
 
--- Column 2. "Labels below the name count, `LOADER` or elements; elements strictly rise within an object": the k-th label of one object's.
+-- Column 2. "Labels below the name count, `LOADER` or elements." An index has 31 bits, so every label is below 2^32.
+abbrev pub isNamed : ℕ → ℕ → Bool
+isNamed names l = allOf (anyOf (ltb l names ∷ leb LOADER l ∷ []) ∷ ltb l 4294967296 ∷ [])
+
+-- "Elements strictly rise within an object": the k-th label of one object's.
 unfoldable pub badLabel : ℕ → List ℕ → ℕ → Bool
-badLabel n ls k =
+badLabel names ls k =
     let l = ls ! k in
-    anyOf (not (anyOf (ltb l n ∷ leb LOADER l ∷ [])) ∷ allOf (isElement l ∷ ltb (l - ARRAY-ELEMENT) (expected ls k) ∷ []) ∷ [])
+    anyOf (not (isNamed names l) ∷ allOf (isElement l ∷ ltb (l - ARRAY-ELEMENT) (expected ls k) ∷ []) ∷ [])
 
 unfoldable pub badLabels : ℕ → ℕ → List ℕ → List ℕ → List ℕ
 badLabels n m offsets labels =

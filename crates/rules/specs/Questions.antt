@@ -6,8 +6,8 @@ use mathlib.Core.List.{List, [], _∷_, map}
 use mathlib.Core.Option.{Option, none, some}
 use lib.Dec.{eqb, leb, ltb}
 use lib.ListN.{length}
-use Rattle.columns.specs.Lists.{_!_, tab, any, find, found, lookup, part, allOf}
-use Rattle.columns.specs.Columns.{accepts}
+use Rattle.columns.specs.Lists.{_!_, tab, any, find, found, lookup, part, allOf, anyOf}
+use Rattle.columns.specs.Columns.{accepts, leaves}
 use Rattle.columns.specs.Ranks.{rank}
 use Rattle.store.specs.Blocked.{Blocked, blocked, readBack}
 use Rattle.rules.specs.Types.{ARRAY-ELEMENT, isElement}
@@ -68,6 +68,20 @@ orSmallest (t ∷ ts) ws = t ∷ []
 abbrev pub referentIn : List Edge → List ℕ → ℕ → List ℕ
 referentIn es ws l = orSmallest (fieldIn es l) ws
 
+-- One object's edges, all of them, into two lent columns of a and b numbers (added, docs/DECISIONS.md): how many they are, or ROOM 23 where a column is shorter.
+unfoldable pub intoSays : List Edge → ℕ → ℕ → List ℕ
+intoSays es a b = cond (anyOf (ltb a (length es) ∷ ltb b (length es) ∷ [])) (9 ∷ 23 ∷ []) (0 ∷ length es ∷ [])
+
+-- What such an answer leaves: the targets and the exact labels, and zeros behind them; zeros after a refusal.
+pub record EdgesLeft : Type 0 where
+  pub says : List ℕ
+  pub targets : List ℕ
+  pub labels : List ℕ
+
+unfoldable pub edgesInto : List ℕ → List Edge → ℕ → ℕ → EdgesLeft
+edgesInto says es a b =
+    record { says = says; targets = leaves says (map (λ (e : Edge). e .target) es) a; labels = leaves says (map (λ (e : Edge). e .label) es) b }
+
 -- In plain columns: the edges of object o, the targets of its weak pairs, and an answer where the object exists.
 unfoldable pub edgesAt : Parts → ℕ → List Edge
 edgesAt p o = tab (λ k. record { target = p .targets ! (p .offsets ! o + k); label = p .labels ! (p .offsets ! o + k) }) (degree (p .offsets) o)
@@ -79,6 +93,9 @@ weakIn (f ∷ from) (t ∷ to) o = cond (eqb f o) (t ∷ weakIn from to o) (weak
 
 abbrev pub plainly : ℕ → ℕ → List ℕ → List ℕ
 plainly objects o answer = cond (ltb o objects) answer (11 ∷ o ∷ [])
+
+unfoldable pub plainEdges : ℕ → ℕ → List Edge → ℕ → ℕ → EdgesLeft
+plainEdges objects o es a b = edgesInto (plainly objects o (intoSays es a b)) es a b
 
 -- Over columns: "queries take the used parts, at the lengths a build returns."
 pub record Columns : Type 0 where
@@ -174,6 +191,9 @@ weakReferents c o = asked c o (weakReads c) (0 ∷ weakStart c o ∷ weakStart c
 
 unfoldable pub referent : Columns → ℕ → ℕ → List ℕ
 referent c o l = asked c o (allOf (readsBack c o ∷ weakReads c ∷ [])) (0 ∷ referentIn (edgesRead c o) (weakRead c o) l)
+
+unfoldable pub objectEdges : Columns → ℕ → ℕ → ℕ → EdgesLeft
+objectEdges c o a b = edgesInto (asked c o (readsBack c o) (intoSays (edgesRead c o) a b)) (edgesRead c o) a b
 
 -- What a call promises over any columns: the answer wherever that is not COLUMNS, INDEX included; and COLUMNS at the object only.
 -- "Over other columns a query may give 12 or an answer."

@@ -26,6 +26,8 @@ use Rattle.rules.specs.declared.Referent.{Referent}
 use Rattle.rules.specs.declared.Referent.the-variants as Referent
 use Rattle.rules.specs.declared.WeakReferents.{WeakReferents}
 use Rattle.rules.specs.declared.WeakReferents.the-variants as WeakReferents
+use Rattle.rules.specs.declared.ObjectEdges.{ObjectEdges}
+use Rattle.rules.specs.declared.ObjectEdges.the-variants as ObjectEdges
 
 -- "`LOADER` is 2,147,483,647 and `ARRAY_ELEMENT` is 2,147,483,648."
 abbrev pub LOADER : ℕ
@@ -111,3 +113,9 @@ abbrev pub weakSays : WeakReferents → List ℕ
 weakSays (WeakReferents.Rows a b) = 0 ∷ a ∷ b ∷ []
 weakSays (WeakReferents.Index i) = 11 ∷ i ∷ []
 weakSays (WeakReferents.Columns o) = 12 ∷ o ∷ []
+
+abbrev pub objectEdgesSays : ObjectEdges → List ℕ
+objectEdgesSays (ObjectEdges.Edges n) = 0 ∷ n ∷ []
+objectEdgesSays (ObjectEdges.Room k) = 9 ∷ k ∷ []
+objectEdgesSays (ObjectEdges.Index i) = 11 ∷ i ∷ []
+objectEdgesSays (ObjectEdges.Columns o) = 12 ∷ o ∷ []

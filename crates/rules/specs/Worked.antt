@@ -21,7 +21,7 @@ use Rattle.rules.specs.Needs.{needCodes}
 use Rattle.rules.specs.Verdict.{buildSays}
 use Rattle.rules.specs.Parts.{partsFaults}
 use Rattle.rules.specs.Built.{buildLeft}
-use Rattle.rules.specs.Questions.{Columns, columnsOf, readsBack, span, edgeCount, exactOf, coarseOf, labelOf, field, referent, weakReferents}
+use Rattle.rules.specs.Questions.{Columns, columnsOf, readsBack, span, edgeCount, exactOf, coarseOf, labelOf, field, referent, weakReferents, EdgesLeft, objectEdges}
 
 -- A check: its case, what is computed and what the document says.
 pub record Check : Type 0 where
@@ -101,6 +101,10 @@ keepWeak = record { soft = false; weak = true }
 abbrev columns : Input → Columns
 columns x = columnsOf (x .schema) (graph x)
 
+-- an answer with the two columns that it leaves
+abbrev leftBy : EdgesLeft → List ℕ
+leftBy e = e .says ++ e .targets ++ e .labels
+
 -- just the room that a build needs
 unfoldable pub enough : Input → Rooms
 enough x =
@@ -159,6 +163,8 @@ graphCases route =
     ++ case "labels" (exactOf c 2 0 ++ coarseOf c 2 0 ++ labelOf c 2 0 ++ labelOf c 2 3)
     (0 ∷ (ARRAY-ELEMENT + 1) ∷ 0 ∷ ARRAY-ELEMENT ∷ 0 ∷ (ARRAY-ELEMENT + 1) ∷ 0 ∷ [])
     ++ case "no object, no edge" (field c 4 0 ++ exactOf c 3 2) (11 ∷ 4 ∷ 11 ∷ 2 ∷ [])
+    ++ case "object's edges" (leftBy (objectEdges c 3 3 2)) (0 ∷ 2 ∷ 0 ∷ 2 ∷ 0 ∷ 2 ∷ LOADER ∷ [])
+    ++ case "object's edges, no room" (leftBy (objectEdges c 3 2 1) ++ leftBy (objectEdges c 4 1 1)) (9 ∷ 23 ∷ 0 ∷ 0 ∷ 0 ∷ 11 ∷ 4 ∷ 0 ∷ 0 ∷ [])
     ++ case "reads back" (tab (λ o. one (readsBack c o)) 4) (1 ∷ 1 ∷ 1 ∷ 1 ∷ [])
     ++ case "accepted" (buildSays x (enough x)) (0 ∷ 4 ∷ 1 ∷ 2 ∷ 0 ∷ 4 ∷ 0 ∷ 1 ∷ [])
     ++ case "no room" (buildSays x noRoom ++ buildLeft x noRoom .targets ++ flat (λ r. r) (buildLeft x noRoom .account))

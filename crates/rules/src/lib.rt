@@ -1,6 +1,6 @@
 // The types that all crates name: labels, kinds, the policy, refusals and answers. specs/Types.antt gives document 01's number and values for each.
 ghost use mathlib.Core.Path.{_≡_};
-ghost use Rattle.rules.specs.Types.{LOADER, elementLabel, isElement, keeps, builtSays, checkedSays};
+ghost use Rattle.rules.specs.Types.{LOADER, elementLabel, isElement, keeps, builtSays};
 ghost use Rattle.columns.specs.Columns.{accepts};
 
 // A field's label is its name; the loader and the elements come behind all names.
@@ -170,6 +170,14 @@ pub enum Referent {
 // The rows of the weak pairs that are the object's.
 pub enum WeakReferents {
     Rows { start: usize, end: usize },
+    Index(usize),
+    Columns(usize),
+}
+
+// How many edges of the object were written.
+pub enum ObjectEdges {
+    Edges(usize),
+    Room(usize),
     Index(usize),
     Columns(usize),
 }

@@ -5,7 +5,7 @@ use lib.ListN.{length, take}
 use lib.Seq.{length-take-le}
 use denote.Ref.{now}
 use Rattle.rules.specs.Types.{builtSays}
-use Rattle.build_rooms.specs.Stages.{kept}
+use Rattle.columns.specs.Columns.{kept}
 use Rattle.build_finish.specs.Rest.{offsetsUsed, labelsUsed}
 use Rattle.build_finish.proofs.Fronts.{take-least, ready-used, hands-used}
 use borrow.Author.Needs.{needs}

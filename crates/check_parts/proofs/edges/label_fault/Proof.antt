@@ -5,7 +5,6 @@ use lib.Dec.{leb}
 use Rattle.check_parts.proofs.Faults.{label-field, label-loader, label-element}
 use native.Mathlib.Omega.{arith}
 use borrow.Author.Needs.{needs}
-use borrow.Author.Needs.{needs}
 use Rattle.check_parts.proofs.edges.label_fault.Statement.{statement}
 use Rattle.check_parts.proofs.edges.label_fault.Tie as tie
 
@@ -16,7 +15,7 @@ returns-2 : tie.Need-returns-2
 returns-2 c = let a = c .before .before .args in sym (label-loader (a .names) (a .next) (a .label) (c .before .if1 .left) (c .if2 .taken))
 
 returns-3 : tie.Need-returns-3
-returns-3 c = let a = c .before .before .args in sym (label-element (a .names) (a .next) (a .label) (c .if2 .left))
+returns-3 c = let a = c .before .before .args in sym (label-element (a .names) (a .next) (a .label) (c .if2 .left) (omega arith))
 
 pub label-fault-spec : {M : Type 1} → statement M
 label-fault-spec = tie.close (tie.spec (λ c κs. search needs) returns returns-2 returns-3)
