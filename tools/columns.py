@@ -25,17 +25,18 @@ bases short long_at long_value edge_codes targets fields escape_at escape_label 
 """.split()
 # A reader holds target and code parts (document 01).
 READER = "targets codes fields escape_at escape_label".split()
-# What leaf calls name for themselves: any numbers, values to be coded, a part of a column, rows, the answer.
+# What leaf calls name for themselves: any numbers, values to be coded, a part of a column, rows, the answer, and one
+# object's edges, which a question writes.
 OWN = """
-s d xs values marks from to rows from_offsets from_labels from_weak weak answer
+s d xs values marks from to rows from_offsets from_labels from_weak weak answer own_targets own_labels
 """.split()
 
 PROGRAMS = {"print", "case_text", "case_graph", "replay", "show_cases", "show_worked"}
 
 
-def order_of(path, name):
+def order_of(path):
     crate = path.parts[1]
-    if crate == "ask_edges" or name == "yokefathom_edge":
+    if path.parts[1:] == ("ask_edges", "src", "lib.rt"):
         return READER
     if crate.startswith("ask_") or path.name in ("questions.rt", "read.rt"):
         return ASK
@@ -45,7 +46,7 @@ def order_of(path, name):
 def faults(path):
     text = re.sub(r"//.*", "", path.read_text())
     for name, words in re.findall(r"\bfn (\w+)(?:<[^>]*>)?\(([^)]*)\)", text):
-        order = order_of(path, name)
+        order = order_of(path)
         slices = [word.strip() for word in words.split(",") if "&" in word and "[" in word]
         for lent in (False, True):
             names = [s.split(":")[0] for s in slices if ("&mut" in s) == lent]

@@ -1,7 +1,8 @@
 //! One object's edges, one by one and in order.
 use std::ops::Range;
 
-use crate::answer::{halves, value, values};
+use crate::ARRAY_ELEMENT;
+use crate::answer::value;
 use crate::ffi;
 use crate::graph::{Columns, Graph};
 use crate::refusal::Refusal;
@@ -39,7 +40,7 @@ impl<'a> Edges<'a> {
         &self.graph.all_targets()[self.span.clone()]
     }
 
-    /// Edge `k`'s field label, or just [`ARRAY_ELEMENT`](crate::ARRAY_ELEMENT) for an element.
+    /// Edge `k`'s field label, or just [`ARRAY_ELEMENT`] for an element.
     #[inline]
     pub fn coarse(&self, k: usize) -> Result<u32, Refusal> {
         let Columns { bases, short, long_at, long_value, codes, targets, fields, escape_at, escape_label, .. } = self.graph.columns();
@@ -75,34 +76,95 @@ impl<'a> Edges<'a> {
         self.iter().map(|(_, label)| label)
     }
 
-    /// `(target, label)` pairs, in order: each edge is read where the one before left off.
+    /// `(target, label)` pairs, in order: one call reads them all.
     #[inline]
-    pub fn iter(&self) -> impl Iterator<Item = (u32, u32)> + use<'a> {
-        let edges = self.clone();
-        let Columns { codes, fields, .. } = self.graph.columns();
-        let mut expected = 0;
-        self.targets().iter().zip(&codes[self.span.clone()]).enumerate().map(move |(k, (&target, &code))| {
-            let reply = ffi::yokefathom_lean_label(code, expected, fields);
-            let label;
-            (expected, label) = halves(reply).unwrap_or_else(|| edges.whole_label(k, expected));
-            (target, label)
-        })
+    pub fn iter(&self) -> Pairs<'a> {
+        Pairs::of(self.clone())
     }
 
-    /// What is expected behind edge `k`, where those before it were read, and its label.
-    #[cold]
-    fn whole_label(&self, k: usize, expected: u32) -> (u32, u32) {
-        let Columns { targets, codes, fields, escape_at, escape_label, .. } = self.graph.columns();
-        let (object, Range { start, end }, mut answer) = (self.object as usize, self.span.clone(), [0; 5]);
-        ffi::yokefathom_edge(object, start, end, k, expected, targets, codes, fields, escape_at, escape_label, &mut answer);
-        let edge = values(&answer).expect("an edge of a built graph");
-        (edge[2] as u32, edge[1] as u32)
-    }
-
-    /// `(target, label)` pairs with every element's label just [`ARRAY_ELEMENT`](crate::ARRAY_ELEMENT).
+    /// `(target, label)` pairs with every element's label just [`ARRAY_ELEMENT`]: all other labels are below it.
     #[inline]
     pub fn iter_coarse(&self) -> impl Iterator<Item = (u32, u32)> + use<'a> {
-        let edges = self.clone();
-        (0..self.len()).map(move |k| (edges.targets()[k], edges.coarse(k).expect("an edge of a built graph")))
+        self.iter().map(|(target, label)| (target, label.min(ARRAY_ELEMENT)))
     }
 }
+
+/// So many edges of an object are kept in the iterator itself; for more, memory is asked for. Most objects have fewer.
+const FEW: usize = 16;
+
+/// The edges of an object, target and exact label, in order.
+///
+/// The first call of `next` reads them all. Not sooner: numbers that were just written are slow to move, and an iterator is moved where it is made.
+#[derive(Clone, Debug)]
+pub struct Pairs<'a> {
+    edges: Edges<'a>,
+    next: usize,
+    few: [[u32; FEW]; 2],
+    many: Vec<u32>,
+}
+
+impl<'a> Pairs<'a> {
+    #[inline]
+    fn of(edges: Edges<'a>) -> Pairs<'a> {
+        Pairs { edges, next: 0, few: [[0; FEW]; 2], many: Vec::new() }
+    }
+
+    /// Reads all edges of the object, if that is still to be done.
+    #[inline]
+    fn read(&mut self) {
+        let count = self.edges.len();
+        if self.next > 0 || count == 0 {
+            return;
+        }
+        let (targets, labels) = if count > FEW {
+            self.many = vec![0; 2 * count];
+            self.many.split_at_mut(count)
+        } else {
+            let [targets, labels] = &mut self.few;
+            (&mut targets[..count], &mut labels[..count])
+        };
+        self.edges.graph.object_edges(self.edges.object, targets, labels).expect("an object of a built graph, and room for its edges");
+    }
+
+    /// Targets and labels, where they have been read.
+    #[inline]
+    fn own(&self) -> (&[u32], &[u32]) {
+        let count = self.edges.len();
+        match count > FEW {
+            true => self.many.split_at(count),
+            false => (&self.few[0][..count], &self.few[1][..count]),
+        }
+    }
+}
+
+impl Iterator for Pairs<'_> {
+    type Item = (u32, u32);
+
+    #[inline]
+    fn next(&mut self) -> Option<(u32, u32)> {
+        let k = self.next;
+        if self.edges.len() <= k {
+            return None;
+        }
+        self.read();
+        self.next += 1;
+        let (targets, labels) = self.own();
+        Some((targets[k], labels[k]))
+    }
+
+    /// All at once, for `sum`, `for_each` and their like.
+    #[inline]
+    fn fold<B, F: FnMut(B, (u32, u32)) -> B>(mut self, first: B, with: F) -> B {
+        self.read();
+        let (targets, labels) = self.own();
+        targets.iter().copied().zip(labels.iter().copied()).skip(self.next).fold(first, with)
+    }
+
+    #[inline]
+    fn size_hint(&self) -> (usize, Option<usize>) {
+        let left = self.edges.len() - self.next;
+        (left, Some(left))
+    }
+}
+
+impl ExactSizeIterator for Pairs<'_> {}

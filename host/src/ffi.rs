@@ -310,19 +310,21 @@ calls! {
         answer: &mut [u64; 4],
     )
 
-    /// Edge k of an object whose span is given, where the edges before it were read in order: `expected` is 0 for the first, and then what the edge before gave.
-    pub extern "C" fn yokefathom_edge(
+    /// All edges of an object, their targets and exact labels from the front of the columns lent. Zeros behind them; or a refusal, and both columns zero.
+    pub extern "C" fn yokefathom_object_edges(
         object: usize,
-        start: usize,
-        end: usize,
-        k: usize,
-        expected: u32,
+        bases: &[u64],
+        short: &[u16],
+        long_at: &[u32],
+        long_value: &[u64],
+        edge_codes: &[u16],
         targets: &[u32],
-        codes: &[u16],
         fields: &[u32],
         escape_at: &[u64],
         escape_label: &[u32],
-        answer: &mut [u64; 5],
+        own_targets: &mut [u32],
+        own_labels: &mut [u32],
+        answer: &mut [u64; 4],
     )
 
     /// Where the edges of an object sit, by the short offsets alone.
@@ -369,10 +371,15 @@ calls! {
         weak_to: &[u32],
     ) -> u64
 
-    /// The label that a code says by itself, where `expected` is what the edge before left behind, and what is expected behind this one.
-    pub extern "C" fn yokefathom_lean_label(
-        code: u16,
-        expected: u32,
+    /// All edges of an object, without long offsets and escapes.
+    pub extern "C" fn yokefathom_lean_object_edges(
+        object: usize,
+        bases: &[u64],
+        short: &[u16],
+        edge_codes: &[u16],
+        targets: &[u32],
         fields: &[u32],
+        own_targets: &mut [u32],
+        own_labels: &mut [u32],
     ) -> u64
 }

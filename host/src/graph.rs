@@ -140,6 +140,18 @@ impl Graph {
         self.span(object).map(|span| Edges::new(self, object, span))
     }
 
+    /// The targets and the exact labels of all of `object`'s edges, written from the front of two columns with zeros behind them: how many they
+    /// are. Where a column is shorter than they are, ROOM 23; after any refusal both columns are zero.
+    #[inline]
+    pub fn object_edges(&self, object: u32, own_targets: &mut [u32], own_labels: &mut [u32]) -> Result<usize, Refusal> {
+        let Columns { bases, short, codes, targets, fields, .. } = self.columns();
+        let reply = ffi::yokefathom_lean_object_edges(object as usize, bases, short, codes, targets, fields, own_targets, own_labels);
+        match reply {
+            0 => Whole(self).object_edges(object, own_targets, own_labels),
+            _ => Ok((reply - 2) as usize),
+        }
+    }
+
     /// The target of `object`'s edge labelled `label`: the first whose label it is, or of [`ARRAY_ELEMENT`](crate::ARRAY_ELEMENT) the first
     /// element.
     #[inline]
@@ -269,8 +281,30 @@ mod tests {
             assert_eq!(graph.field(0, label), Ok(held));
             assert_eq!(graph.referent(0, label), Ok(held));
         }
+        assert_eq!(all_at_once(&graph), (Ok(1), [0, 0], [5, 0]));
         let unread = Graph { escape_at: vec![1], ..graph };
         assert_eq!(unread.field(0, 5), Err(Refusal::Columns(0)));
         assert_eq!(unread.referent(0, 5), Err(Refusal::Columns(0)));
+        assert_eq!(all_at_once(&unread), (Err(Refusal::Columns(0)), [0, 0], [0, 0]));
+    }
+
+    fn all_at_once(graph: &Graph) -> (Result<usize, Refusal>, [u32; 2], [u32; 2]) {
+        let (mut targets, mut labels) = ([9; 2], [9; 2]);
+        (graph.object_edges(0, &mut targets, &mut labels), targets, labels)
+    }
+
+    /// A target of columns that no build left: the edge is there, and leads to no object.
+    #[test]
+    fn a_target_that_is_no_object_is_refused() {
+        let graph = |target| Graph {
+            bases: vec![0],
+            short: vec![0, 2],
+            codes: vec![0, 0],
+            targets: vec![0, target],
+            fields: vec![5],
+            ..Graph::default()
+        };
+        assert_eq!(all_at_once(&graph(0)), (Ok(2), [0, 0], [5, 5]));
+        assert_eq!(all_at_once(&graph(1)), (Err(Refusal::Columns(0)), [0, 0], [0, 0]));
     }
 }

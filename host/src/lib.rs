@@ -30,7 +30,7 @@ mod room;
 mod whole;
 
 pub use account::{Account, Outcomes};
-pub use edges::Edges;
+pub use edges::{Edges, Pairs};
 pub use graph::{Columns, Graph};
 pub use input::{Classes, Input, Objects, Parts, ReferencePolicy, References, Schema, SlotColumns, SlotRow, Slots, Statics};
 pub use refusal::Refusal;

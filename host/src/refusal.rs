@@ -21,8 +21,8 @@ pub enum Refusal {
     Root(u64),
     /// More places than the limit.
     Places,
-    /// A buffer that is smaller than its need. [`Graph`](crate::Graph) lends enough and never gives it;
-    /// [`SlotColumns::fill`](crate::SlotColumns::fill) does, with 17, where there is no room for all rows.
+    /// A buffer that is smaller than its need. A build never gives it, [`Graph`](crate::Graph) lends it enough. Where the caller lends,
+    /// [`SlotColumns::fill`](crate::SlotColumns::fill) gives 17 and [`Graph::object_edges`](crate::Graph::object_edges) gives 23.
     Room(u64),
     /// Columns handed to `from_parts` that break their rules.
     Parts {

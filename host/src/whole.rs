@@ -66,4 +66,16 @@ impl Whole<'_> {
         );
         value_or_none(&answer)
     }
+
+    /// [`Graph::object_edges`].
+    #[cold]
+    pub fn object_edges(self, object: u32, own_targets: &mut [u32], own_labels: &mut [u32]) -> Result<usize, Refusal> {
+        let Columns { bases, short, long_at, long_value, codes, targets, fields, escape_at, escape_label, .. } = self.0.columns();
+        let (object, mut answer) = (object as usize, [0; 4]);
+        #[rustfmt::skip]
+        ffi::yokefathom_object_edges(
+            object, bases, short, long_at, long_value, codes, targets, fields, escape_at, escape_label, own_targets, own_labels, &mut answer,
+        );
+        value(&answer).map(|count| count as usize)
+    }
 }

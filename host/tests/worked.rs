@@ -80,6 +80,43 @@ fn edges_are_read_in_order() -> Result<(), Refusal> {
 }
 
 #[test]
+fn one_call_writes_all_edges_of_an_object() {
+    let graph = built();
+    let (mut targets, mut labels) = ([9; 3], [9; 2]);
+    assert_eq!(graph.object_edges(3, &mut targets, &mut labels), Ok(2));
+    assert_eq!((targets, labels), ([0, 2, 0], [2, LOADER]), "a zero stands behind them");
+    assert_eq!(graph.object_edges(1, &mut [], &mut []), Ok(0), "no edges need no room");
+    for (lent, object, refusal) in [(1, 3, Refusal::Room(23)), (0, 2, Refusal::Room(23)), (2, 4, Refusal::Index(4))] {
+        for lengths in [[lent, 3], [3, lent]] {
+            let [mut targets, mut labels] = lengths.map(|length| vec![9; length]);
+            assert_eq!(graph.object_edges(object, &mut targets, &mut labels), Err(refusal));
+            assert!(targets.iter().chain(&labels).all(|&left| left == 0), "something is left behind {refusal}");
+        }
+    }
+}
+
+/// Forty elements, more than the iterator holds itself; the last index is too far from the one before for a code.
+#[test]
+fn many_edges_are_read_in_order() -> Result<(), Refusal> {
+    let index = |k| if k < 39 { 2 * k } else { 1_000_000 };
+    let edges: Vec<(u32, u32)> = (0..40).map(|k| (k % 3, ARRAY_ELEMENT + index(k))).collect();
+    let (targets, labels): (Vec<u32>, Vec<u32>) = edges.iter().copied().unzip();
+    let parts =
+        Parts { offsets: &[0, 0, 40, 40], targets: &targets, labels: &labels, weak_from: &[], weak_to: &[], roots: &[], dangling: 0 };
+    let graph = Graph::from_parts(&SCHEMA, &parts)?;
+    assert_eq!(graph.columns().escape_at, [39]);
+    assert_eq!(graph.edges(1)?.iter().len(), 40);
+    assert_eq!(graph.edges(1)?.iter().collect::<Vec<_>>(), edges);
+    let mut rest = graph.edges(1)?.iter();
+    assert_eq!(rest.next(), Some(edges[0]));
+    let mut at_once = Vec::new();
+    rest.for_each(|edge| at_once.push(edge));
+    assert_eq!(at_once, edges[1..]);
+    assert_eq!(graph.edges(0)?.iter().next(), None);
+    Ok(())
+}
+
+#[test]
 fn a_stored_graph_comes_back() -> Result<(), Refusal> {
     let graph = built();
     let (offsets, labels): (Vec<u64>, Vec<u32>) = (graph.offsets().collect(), graph.all_labels().collect());

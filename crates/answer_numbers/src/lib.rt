@@ -1,17 +1,16 @@
 // Answers of the questions as numbers, for a host: how many numbers document 01 gives an answer, those numbers, then zeros. `answer_builds` has the others,
 // `answer_replies` answers in one number.
-use ask_edges::NextEdge;
 use rules::CoarseLabel;
 use rules::EdgeCount;
 use rules::ExactLabel;
 use rules::Field;
 use rules::LabelOf;
+use rules::ObjectEdges;
 use rules::Referent;
 use rules::Span;
 use rules::WeakReferents;
 ghost use mathlib.Core.Path.{_≡_};
-ghost use Rattle.rules.specs.Types.{spanSays, edgeCountSays, coarseSays, exactSays, labelOfSays, fieldSays, referentSays, weakSays};
-ghost use Rattle.ask_edges.specs.Read.{nextSays};
+ghost use Rattle.rules.specs.Types.{spanSays, edgeCountSays, coarseSays, exactSays, labelOfSays, fieldSays, referentSays, weakSays, objectEdgesSays};
 ghost use Rattle.answer_numbers.specs.Told.{told};
 
 pub fn span(a: Span) -> [u64; 4]
@@ -97,17 +96,13 @@ pub fn referent(a: Referent) -> [u64; 4]
     }
 }
 
-pub fn next_edge(a: NextEdge) -> [u64; 5]
-    ensures { λ r. ⌜ r ≡ told 5 (nextSays a) ⌝ }
+pub fn object_edges(a: ObjectEdges) -> [u64; 4]
+    ensures { λ r. ⌜ r ≡ told 4 (objectEdgesSays a) ⌝ }
 {
     match a {
-        NextEdge::Edge {
-            target,
-            label,
-            expected,
-        } => [4, 0, target as u64, label as u64, expected as u64],
-        NextEdge::End => [1, 0, 0, 0, 0],
-        NextEdge::Index(at) => [2, 11, at as u64, 0, 0],
-        NextEdge::Columns(at) => [2, 12, at as u64, 0, 0],
+        ObjectEdges::Edges(n) => [2, 0, n as u64, 0],
+        ObjectEdges::Room(at) => [2, 9, at as u64, 0],
+        ObjectEdges::Index(at) => [2, 11, at as u64, 0],
+        ObjectEdges::Columns(at) => [2, 12, at as u64, 0],
     }
 }

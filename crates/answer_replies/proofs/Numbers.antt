@@ -1,15 +1,12 @@
 -- An answer in one number says what was answered: it is 0 only where the whole question is to be asked, and else the values come back from it. Assumes nothing.
 use Prim.Native.Nat.{ℕ, _+_, _*_, _/_, _%_, _<_}
 use native.Mathlib.Omega.{arith}
-use mathlib.Core.Path.{_≡_, refl, sym, ap, _∙_}
-use mathlib.Core.Bool.{cond}
-use mathlib.Core.List.{List, [], _∷_}
-use lib.Dec.{ltb}
+use mathlib.Core.Path.{_≡_, refl, _∙_}
+use mathlib.Core.List.{[], _∷_}
 use borrow.Author.Tests.{lt-ltb}
 use Rattle.columns.specs.Lists.{allOf}
 use Rattle.columns.specs.Columns.{accepts}
-use Rattle.rules.specs.Labels.{after}
-use Rattle.answer_replies.specs.Reply.{spanNumber, replyOf, labelNext}
+use Rattle.answer_replies.specs.Reply.{spanNumber, replyOf}
 
 -- two numbers come back from their halves
 halves : (a b n : ℕ) → b < 4294967296 → n ≡ a * 4294967296 + b → (n / 4294967296 ≡ a) × (n % 4294967296 ≡ b)
@@ -30,10 +27,3 @@ reply-value v = refl
 pub reply-nothing : replyOf (0 ∷ []) ≡ 1
 unfolding replyOf accepts
 reply-nothing = refl
-
--- A label, and what is expected behind it, come back.
-pub label-number-back : (m l n : ℕ) → l < 4294967296 → after m l < 4294967295 → n + 1 ≡ labelNext m (l ∷ []) → (n / 4294967296 ≡ after m l) × (n % 4294967296 ≡ l)
-unfolding labelNext
-label-number-back m l n s a e =
-    let is : n + 1 ≡ after m l * 4294967296 + l + 1 = e ∙ rw (lt-ltb (after m l) 4294967295 a) in
-    halves (after m l) l n s (omega (arith, is))

@@ -6,7 +6,6 @@ use lib.Dec.{eqb, ltb}
 use lib.ListN.{length}
 use Rattle.columns.specs.Lists.{_!_, allOf}
 use Rattle.columns.specs.Columns.{accepts}
-use Rattle.rules.specs.Labels.{after}
 
 -- A span in one number: the start in the upper half, the end and one in the lower; 0 where it is refused or takes more.
 unfoldable pub spanNumber : List ℕ → ℕ
@@ -16,9 +15,3 @@ spanNumber says =
 -- An answer of at most one value in one number: 2 more than the value, 1 for nothing, 0 where it is refused.
 unfoldable pub replyOf : List ℕ → ℕ
 replyOf says = cond (accepts says) (cond (eqb (length says) 1) 1 (says ! 1 + 2)) 0
-
--- The label that a code says, and what is expected behind it, in one number: that in the upper half, the label and one behind it; 0 where there is no label, or
--- where all of the upper half is taken.
-unfoldable pub labelNext : ℕ → List ℕ → ℕ
-labelNext n [] = 0
-labelNext n (l ∷ ls) = cond (ltb (after n l) 4294967295) (after n l * 4294967296 + l + 1) 0

@@ -1,17 +1,12 @@
 // Answers in one number, for a host that reads them from a register.
-use labels::EdgeLabel;
 use rules::Field;
 use rules::LabelOf;
 use rules::Referent;
 use rules::Span;
 ghost use mathlib.Core.Path.{_≡_};
-ghost use mathlib.Core.Bool.{cond};
 ghost use mathlib.Core.List.{[], _∷_};
-ghost use Prim.Native.Nat.{_+_, _*_, _<_};
-ghost use lib.Dec.{ltb};
 ghost use Rattle.rules.specs.Types.{spanSays, labelOfSays, fieldSays, referentSays};
-ghost use Rattle.labels.specs.Reading.{readSays};
-ghost use Rattle.answer_replies.specs.Reply.{spanNumber, replyOf, labelNext};
+ghost use Rattle.answer_replies.specs.Reply.{spanNumber, replyOf};
 
 pub fn span_number(a: Span) -> u64
     ensures { λ r. ⌜ r ≡ spanNumber (spanSays a) ⌝ }
@@ -65,28 +60,5 @@ pub fn label_reply(a: LabelOf) -> u64
         LabelOf::Nothing => 1,
         LabelOf::Index(_) => 0,
         LabelOf::Columns(_) => 0,
-    }
-}
-
-fn joined(next: u64, label: u64) -> u64
-    requires { ⌜ label < 4294967296 ⌝ }
-    ensures { λ r. ⌜ r ≡ cond (ltb next 4294967295) (next * 4294967296 + label + 1) 0 ⌝ }
-{
-    if 4294967295 <= next {
-        return 0;
-    }
-    next * 4294967296 + label + 1
-}
-
-// The label of one code, and the index that an element has behind it at least.
-pub fn code_reply(a: EdgeLabel, expected: u32) -> u64
-    ensures { λ r. ⌜ r ≡ labelNext expected (readSays a) ⌝ }
-{
-    match a {
-        EdgeLabel::Is(l) => {
-            let next = labels::code::after(l, expected);
-            joined(columns::wide(next), columns::wide(l))
-        }
-        EdgeLabel::Bad => 0,
     }
 }

@@ -1,87 +1,32 @@
--- Reading an object's edges in order, from its parts of the columns, gives each edge's target and exact label, and then the end. Assumes nothing.
+-- The reader: an object's parts hold its edges in order, each with its target and its code, and then the end. Assumes nothing.
 use Prim.Native.Nat.{ℕ, suc, _+_, _-_, _≤_, _<_}
-use native.Mathlib.Omega.{arith}
-use mathlib.Core.Path.{_≡_, refl, sym, ap, ap₂, _∙_}
-use mathlib.Core.Logic.{⊎-elim}
-use mathlib.Core.Bool.{true, cond}
-use lib.Dec.{eqb}
-use mathlib.Core.List.{List, [], _∷_}
+use mathlib.Core.Path.{_≡_, sym, ap, ap₂, _∙_}
+use mathlib.Core.Bool.{true}
+use mathlib.Core.List.{List, []}
 use lib.ListN.{length}
-use borrow.Author.Tests.{lt-ltb, le-ltb}
+use borrow.Author.Tests.{lt-ltb, le-ltb, lt-leb, le-leb}
 use Rattle.columns.specs.Lists.{_!_, part}
-use Rattle.columns.specs.Columns.{accepts}
-use Rattle.columns.specs.Ranks.{Rises}
-use Rattle.columns.proofs.Lists.{lt-or-ge}
 use Rattle.columns.proofs.Sums.{part-at, part-length}
-use Rattle.rules.specs.Labels.{Coded, expectedAt, exactLabel}
-use Rattle.rules.specs.Questions.{Columns, labelReads, readsBack, objectsIn, offsetAt, edgesIn, edgeAt}
+use Rattle.rules.specs.Questions.{Columns, readsBack, objectsIn, offsetAt, edgesIn, edgeAt}
 use Rattle.labels.specs.Reading.{codeBack}
-use Rattle.labels.proofs.Back.{step-back}
 use Rattle.ask_span.specs.Reading.{spanPart}
 use Rattle.ask_span.specs.Graph.{spanIn}
-use Rattle.ask_span.proofs.Spans.{span-inside, span-read, part-falls, part-past, part-is}
-use Rattle.ask_span.proofs.Escapes.{escapes-rising, escapes-paired, edge-reads}
+use Rattle.ask_span.proofs.Spans.{span-inside, span-read, part-is}
 use Rattle.ask_edges.specs.declared.Step.{Step}
 use Rattle.ask_edges.specs.declared.Step.the-variants as Step
-use Rattle.ask_edges.specs.declared.NextEdge.{NextEdge}
-use Rattle.ask_edges.specs.declared.NextEdge.the-variants as NextEdge
-use Rattle.ask_edges.specs.Read.{stepAt, withLabel, edgeBack, nextSays, orObject, edgeNext}
+use Rattle.ask_edges.specs.Read.{stepAt, withLabel, edgeBack}
 
--- an edge that stands there, and its label
-pub edge-is : (f a l : List ℕ) {t c e n : ℕ} {s : Step} {says ls : List ℕ} → Step.Edge t c e n ≡ s → ls ≡ codeBack f a l e n c → says ≡ withLabel t n ls → says ≡ edgeBack s f a l
-edge-is f a l {t} {c} {e} {n} q r w = w ∙ ap (withLabel t n) r ∙ ap (λ (s : Step). edgeBack s f a l) q
-
--- The edges from a up to b, of which those before k are read: what is expected is what their labels come to.
-module _ (d : Coded) (ts : List ℕ) (a b k : ℕ) (within : b ≤ length ts) (coded : b ≤ length (d .codes)) where
-  abbrev stands : Step
-  stands = stepAt (part ts a b) (part (d .codes) a b) k (a + k) (expectedAt d a k)
-
-  abbrev reads : List ℕ
-  reads = edgeBack stands (d .fields) (d .escapeAt) (d .escapeLabel)
-
-  stands-edge : k < b - a → stands ≡ Step.Edge (ts ! (a + k)) (d .codes ! (a + k)) (a + k) (expectedAt d a k)
+-- the parts from a up to b
+module _ (ts cs : List ℕ) (a b k : ℕ) (targeted : b ≤ length ts) (coded : b ≤ length cs) where
+  pub stands-edge : k < b - a → stepAt (part ts a b) (part cs a b) k ≡ Step.Edge (ts ! (a + k)) (cs ! (a + k))
   unfolding stepAt
-  stands-edge l =
-      rw (part-length ts a b within, part-length (d .codes) a b coded, lt-ltb k (b - a) l, part-at ts a b k l, part-at (d .codes) a b k l)
+  stands-edge l = rw (part-length ts a b targeted, part-length cs a b coded, lt-ltb k (b - a) l, part-at ts a b k l, part-at cs a b k l)
 
-  -- each edge in its turn: its target, its exact label, and what is expected behind it
-  pub reads-edge : Rises (d .escapeAt) → length (d .escapeAt) ≡ length (d .escapeLabel) → labelReads d a k ≡ true → k < b - a
-      → reads ≡ 0 ∷ ts ! (a + k) ∷ exactLabel d a k ∷ expectedAt d a (suc k) ∷ []
-  unfolding exactLabel expectedAt
-  reads-edge rise even h l =
-      ap (λ (s : Step). edgeBack s (d .fields) (d .escapeAt) (d .escapeLabel)) (stands-edge l)
-      ∙ ap (withLabel (ts ! (a + k)) (expectedAt d a k)) (step-back d rise even a k h)
-
-  -- and then the end
-  pub reads-end : b - a ≤ k → reads ≡ 0 ∷ []
+  pub stands-end : b - a ≤ k → stepAt (part ts a b) (part cs a b) k ≡ Step.End
   unfolding stepAt
-  reads-end l = rw (part-length ts a b within, le-ltb k (b - a) l)
+  stands-end l = rw (part-length ts a b targeted, le-ltb k (b - a) l)
 
--- Which case of `edgeNext` holds, of a span from a up to b.
-part-few : (xs : List ℕ) (a b : ℕ) → length (spanPart (0 ∷ a ∷ b ∷ []) xs) ≤ b - a
-part-few xs a b =
-    ⊎-elim
-    (λ l. omega (arith, ap length (part-falls xs a b l)))
-    (λ l. ⊎-elim
-    (λ m. omega (arith, ap length (part-past xs a b l m)))
-    (λ m. omega (arith, ap length (part-is xs a b l m), part-length xs a b m))
-    (lt-or-ge (length xs) b))
-    (lt-or-ge b a)
-
-module _ (a b : ℕ) (ts cs f ea el : List ℕ) (o k n : ℕ) where
-  pub next-none : b - a ≤ k → edgeNext (0 ∷ a ∷ b ∷ []) ts cs f ea el o k n ≡ 0 ∷ []
-  unfolding edgeNext accepts stepAt
-  next-none l = rw (le-ltb k (length (spanPart (0 ∷ a ∷ b ∷ []) ts)) (omega (arith, part-few ts a b)))
-
-  pub no-edge-left : b ≤ a → edgeNext (0 ∷ a ∷ b ∷ []) ts cs f ea el o k n ≡ 0 ∷ []
-  no-edge-left l = next-none (omega arith)
-
-  pub next-is : {t c read says : List ℕ} → t ≡ spanPart (0 ∷ a ∷ b ∷ []) ts → c ≡ spanPart (0 ∷ a ∷ b ∷ []) cs → read ≡ edgeBack (stepAt t c k (a + k) n) f ea el
-      → says ≡ orObject o read → says ≡ edgeNext (0 ∷ a ∷ b ∷ []) ts cs f ea el o k n
-  unfolding edgeNext accepts
-  next-is p q r w = w ∙ ap (orObject o) (r ∙ ap₂ (λ (t c : List ℕ). edgeBack (stepAt t c k (a + k) n) f ea el) p q)
-
--- Of an object that reads back the edges come in order, each with what is expected behind it, and then the end.
+-- Of an object that reads back.
 module _ (c : Columns) (o : ℕ) (m : o < objectsIn c) (h : readsBack c o ≡ true) where
   abbrev e : ℕ
   e = offsetAt c o
@@ -89,35 +34,40 @@ module _ (c : Columns) (o : ℕ) (m : o < objectsIn c) (h : readsBack c o ≡ tr
   abbrev z : ℕ
   z = offsetAt c (suc o)
 
-  abbrev turn : List ℕ → ℕ → List ℕ
-  turn span k = edgeNext span (c .targets) (c .labels .codes) (c .labels .fields) (c .labels .escapeAt) (c .labels .escapeLabel) o k (expectedAt (c .labels) e k)
+  abbrev stands : ℕ → Step
+  stands k = stepAt (spanPart (spanIn c o) (c .targets)) (spanPart (spanIn c o) (c .labels .codes)) k
 
-  pub edge-in-order : (k : ℕ) → k < edgesIn c o → turn (spanIn c o) k ≡ 0 ∷ edgeAt c o k .target ∷ edgeAt c o k .label ∷ expectedAt (c .labels) e (suc k) ∷ []
-  unfolding accepts
+  parts-are : (k : ℕ) → stands k ≡ stepAt (part (c .targets) e z) (part (c .labels .codes) e z) k
+  parts-are k =
+      let i = span-inside (c .offsets) (length (c .labels .codes)) (length (c .targets)) o (span-read c o m h) in
+      rw (span-read c o m h)
+      (ap₂ (λ (t s : List ℕ). stepAt t s k) (part-is (c .targets) e z (i .ordered) (i .targeted)) (part-is (c .labels .codes) e z (i .ordered) (i .coded)))
+
+  pub edge-in-order : (k : ℕ) → k < edgesIn c o → stands k ≡ Step.Edge (edgeAt c o k .target) (c .labels .codes ! (e + k))
   edge-in-order k l =
-      let says = span-read c o m h in
-      let i = span-inside (c .offsets) (length (c .labels .codes)) (length (c .targets)) o says in
-      ap (λ (s : List ℕ). turn s k) says
-      ∙ sym (next-is e z (c .targets) (c .labels .codes) (c .labels .fields) (c .labels .escapeAt) (c .labels .escapeLabel) o k (expectedAt (c .labels) e k)
-      (sym (part-is (c .targets) e z (i .ordered) (i .targeted))) (sym (part-is (c .labels .codes) e z (i .ordered) (i .coded))) refl refl)
-      ∙ ap (orObject o) (reads-edge (c .labels) (c .targets) e z k (i .targeted) (i .coded) (escapes-rising c o h) (escapes-paired c o h) (edge-reads c o h k l) l)
+      let i = span-inside (c .offsets) (length (c .labels .codes)) (length (c .targets)) o (span-read c o m h) in
+      parts-are k ∙ stands-edge (c .targets) (c .labels .codes) e z k (i .targeted) (i .coded) l
 
-  pub end-in-order : (k : ℕ) → edgesIn c o ≤ k → turn (spanIn c o) k ≡ 0 ∷ []
+  pub end-in-order : (k : ℕ) → edgesIn c o ≤ k → stands k ≡ Step.End
   end-in-order k l =
-      ap (λ (s : List ℕ). turn s k) (span-read c o m h)
-      ∙ next-none e z (c .targets) (c .labels .codes) (c .labels .fields) (c .labels .escapeAt) (c .labels .escapeLabel) o k (expectedAt (c .labels) e k) l
+      let i = span-inside (c .offsets) (length (c .labels .codes)) (length (c .targets)) o (span-read c o m h) in
+      parts-are k ∙ stands-end (c .targets) (c .labels .codes) e z k (i .targeted) (i .coded) l
 
--- An answer leaves one outcome.
-nextFrom : List ℕ → NextEdge
-nextFrom a =
-    cond (eqb (a ! 0) 0) (cond (eqb (length a) 1) NextEdge.End (NextEdge.Edge (a ! 1) (a ! 2) (a ! 3))) (cond (eqb (a ! 0) 11) (NextEdge.Index (a ! 1)) (NextEdge.Columns (a ! 1)))
+-- What stands there, read: its target is no object; its label; the end.
+module _ (objects : ℕ) (f a l : List ℕ) (place n : ℕ) where
+  pub edge-out : {t c : ℕ} {s : Step} → Step.Edge t c ≡ s → objects ≤ t → [] ≡ edgeBack objects f a l place n s
+  unfolding edgeBack
+  edge-out {t} {c} q h =
+      let none : edgeBack objects f a l place n (Step.Edge t c) ≡ [] = rw (le-leb objects t h) in
+      sym none ∙ ap (edgeBack objects f a l place n) q
 
-next-back : (r : NextEdge) → nextFrom (nextSays r) ≡ r
-unfolding nextFrom
-next-back (NextEdge.Edge t l n) = refl
-next-back NextEdge.End = refl
-next-back (NextEdge.Index i) = refl
-next-back (NextEdge.Columns o) = refl
+  pub edge-is : {t c : ℕ} {s : Step} {says ls : List ℕ} → Step.Edge t c ≡ s → t < objects → ls ≡ codeBack f a l place n c → says ≡ withLabel t ls
+      → says ≡ edgeBack objects f a l place n s
+  unfolding edgeBack
+  edge-is {t} {c} q h r w =
+      let one : edgeBack objects f a l place n (Step.Edge t c) ≡ withLabel t (codeBack f a l place n c) = rw (lt-leb objects t h) in
+      w ∙ ap (withLabel t) r ∙ sym one ∙ ap (edgeBack objects f a l place n) q
 
-pub one-next : (r r′ : NextEdge) → nextSays r ≡ nextSays r′ → r ≡ r′
-one-next r r′ q = sym (next-back r) ∙ ap nextFrom q ∙ next-back r′
+  pub edge-none : {s : Step} → Step.End ≡ s → [] ≡ edgeBack objects f a l place n s
+  unfolding edgeBack
+  edge-none q = ap (edgeBack objects f a l place n) q

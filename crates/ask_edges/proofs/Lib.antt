@@ -1,1 +1,4 @@
 pub mod InOrder
+pub mod Reading
+pub mod Found
+pub mod Built

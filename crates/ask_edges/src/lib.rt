@@ -1,65 +1,36 @@
-// One object's edges in order: a reader that holds the object's parts of the targets and of the codes, and its state in numbers.
+// One object's edges: a reader that holds the object's parts of the targets and of the codes and a position; and all of them at once, into two lent columns.
 // The struct and the functions over it are thin, and leave the work to functions on slices and numbers.
+mod object;
+
 use labels::EdgeLabel;
-use rules::Span;
+pub use object::object_edges;
 ghost use mathlib.Core.Path.{_≡_};
 ghost use Rattle.columns.specs.Loans.{entry};
-ghost use Rattle.ask_edges.specs.Read.{stepAt, readEdgeSays, withLabel, edgeBack, nextSays, orObject, edgeNext};
-ghost use Rattle.rules.specs.Types.{spanSays};
 ghost use Rattle.labels.specs.Reading.{readSays};
+ghost use Rattle.ask_edges.specs.Read.{stepAt, readEdgeSays, withLabel, edgeBack};
 
-// `at` is the edge that is read next, counted from the object's first; `edge` is its place in the columns; `expected` is the index that an element has there at least.
+// `at` is the edge that is read next, counted from the object's first.
 pub struct Edges<'a, 'b> {
     pub targets: &'a [u32],
     pub codes: &'b [u16],
     pub at: usize,
-    pub edge: usize,
-    pub expected: u32,
 }
 
-// An edge as it stands in the columns, with what reading its label asks for.
+// An edge as it stands in the columns.
 pub enum Step {
-    Edge {
-        target: u32,
-        code: u16,
-        edge: usize,
-        expected: u32,
-    },
+    Edge { target: u32, code: u16 },
     End,
 }
 
-// An edge that is read: its target, its exact label, and the index that an element has behind it at least.
-pub enum ReadEdge {
-    Edge {
-        target: u32,
-        label: u32,
-        expected: u32,
-    },
-    End,
+// An edge with its exact label, or one that cannot be read back.
+pub(crate) enum ReadEdge {
+    Edge { target: u32, label: u32 },
     Bad,
 }
 
-// The next edge of an object, or why there is none: the end of its edges, or the refusal that its span carries.
-pub enum NextEdge {
-    Edge {
-        target: u32,
-        label: u32,
-        expected: u32,
-    },
-    End,
-    Index(usize),
-    Columns(usize),
-}
-
 // The work: what stands at a position of the two parts.
-pub fn step_at<'a, 'b>(
-    targets: &'a [u32],
-    codes: &'b [u16],
-    at: usize,
-    edge: usize,
-    expected: u32,
-) -> Step
-    ensures { λ r. ⌜ r ≡ stepAt (entry targets) (entry codes) at edge expected ⌝ }
+pub fn step_at<'a, 'b>(targets: &'a [u32], codes: &'b [u16], at: usize) -> Step
+    ensures { λ r. ⌜ r ≡ stepAt (entry targets) (entry codes) at ⌝ }
 {
     if targets.len() <= at {
         return Step::End;
@@ -70,152 +41,68 @@ pub fn step_at<'a, 'b>(
     Step::Edge {
         target: targets[at],
         code: codes[at],
-        edge,
-        expected,
     }
 }
 
-pub fn new<'a, 'b>(
-    targets: &'a [u32],
-    codes: &'b [u16],
-    at: usize,
-    edge: usize,
-    expected: u32,
-) -> Edges<'a, 'b>
-    ensures { λ r. ⌜ (r .targets ≡ targets .entry) × (r .codes ≡ codes .entry) × (r .at ≡ at) × (r .edge ≡ edge) × (r .expected ≡ expected) ⌝ }
+pub fn new<'a, 'b>(targets: &'a [u32], codes: &'b [u16], at: usize) -> Edges<'a, 'b>
+    ensures { λ r. ⌜ (r .targets ≡ targets .entry) × (r .codes ≡ codes .entry) × (r .at ≡ at) ⌝ }
 {
-    Edges {
-        targets,
-        codes,
-        at,
-        edge,
-        expected,
-    }
+    Edges { targets, codes, at }
 }
 
 pub fn next<'a, 'b>(e: Edges<'a, 'b>) -> Step
-    ensures { λ r. ⌜ r ≡ stepAt (now (e .entry .targets)) (now (e .entry .codes)) (e .entry .at) (e .entry .edge) (e .entry .expected) ⌝ }
+    ensures { λ r. ⌜ r ≡ stepAt (now (e .entry .targets)) (now (e .entry .codes)) (e .entry .at) ⌝ }
 {
-    step_at(e.targets, e.codes, e.at, e.edge, e.expected)
+    step_at(e.targets, e.codes, e.at)
 }
 
 // A function with plain parameters above them: whoever calls it needs no struct.
-pub fn read<'a, 'b>(
-    targets: &'a [u32],
-    codes: &'b [u16],
-    at: usize,
-    edge: usize,
-    expected: u32,
-) -> Step
-    ensures { λ r. ⌜ r ≡ stepAt (entry targets) (entry codes) at edge expected ⌝ }
+pub fn read<'a, 'b>(targets: &'a [u32], codes: &'b [u16], at: usize) -> Step
+    ensures { λ r. ⌜ r ≡ stepAt (entry targets) (entry codes) at ⌝ }
 {
-    next(new(targets, codes, at, edge, expected))
+    next(new(targets, codes, at))
 }
 
-// The edge that is next, with its exact label.
-pub fn edge_at(
+// The edge at a position, read: `place` is its place in the columns, and an element has the index `expected` there at least. A target is one of so many objects.
+pub(crate) fn edge_at(
     targets: &[u32],
     codes: &[u16],
-    at: usize,
-    edge: usize,
-    expected: u32,
     fields: &[u32],
     escape_at: &[u64],
     escape_label: &[u32],
+    at: usize,
+    place: usize,
+    expected: u32,
+    objects: usize,
 ) -> ReadEdge
-    ensures { λ r. ⌜ readEdgeSays r ≡ edgeBack (stepAt (entry targets) (entry codes) at edge expected) (entry fields) (entry «escape_at») (entry «escape_label») ⌝ }
+    ensures { λ r. ⌜ readEdgeSays r ≡
+        edgeBack objects (entry fields) (entry «escape_at») (entry «escape_label») place expected (stepAt (entry targets) (entry codes) at) ⌝ }
 {
-    let stands = read(targets, codes, at, edge, expected);
+    let stands = read(targets, codes, at);
     match stands {
-        Step::Edge {
-            target,
-            code,
-            edge: place,
-            expected: index,
-        } => {
+        Step::Edge { target, code } => {
+            if objects <= columns::index(target) {
+                return ReadEdge::Bad;
+            }
             let label = labels::read::read_code(
                 code,
                 place as u64,
-                index,
-                fields,
-                escape_at,
-                escape_label,
-            );
-            labelled(target, label, index)
-        }
-        Step::End => ReadEdge::End,
-    }
-}
-
-fn labelled(target: u32, label: EdgeLabel, expected: u32) -> ReadEdge
-    ensures { λ r. ⌜ readEdgeSays r ≡ withLabel target expected (readSays label) ⌝ }
-{
-    match label {
-        EdgeLabel::Is(l) => ReadEdge::Edge {
-            target,
-            label: l,
-            expected: labels::code::after(l, expected),
-        },
-        EdgeLabel::Bad => ReadEdge::Bad,
-    }
-}
-
-fn answer(edge: ReadEdge, object: usize) -> NextEdge
-    ensures { λ r. ⌜ nextSays r ≡ orObject object (readEdgeSays edge) ⌝ }
-{
-    match edge {
-        ReadEdge::Edge {
-            target,
-            label,
-            expected,
-        } => NextEdge::Edge {
-            target,
-            label,
-            expected,
-        },
-        ReadEdge::End => NextEdge::End,
-        ReadEdge::Bad => NextEdge::Columns(object),
-    }
-}
-
-// Edge k of an object, by the span that `ask_span::span` gave, where the edges before it were read in order: `expected` is 0 for the first, and then what the edge
-// before gave. Where the span is a refusal, that is the answer.
-pub fn edge_of<'a, 'b>(
-    targets: &'a [u32],
-    codes: &'b [u16],
-    fields: &[u32],
-    escape_at: &[u64],
-    escape_label: &[u32],
-    at: Span,
-    object: usize,
-    k: usize,
-    expected: u32,
-) -> NextEdge
-    ensures { λ r. ⌜ nextSays r ≡ edgeNext (spanSays at) (entry targets) (entry codes) (entry fields) (entry «escape_at») (entry «escape_label») object k expected ⌝ }
-{
-    match at {
-        Span::Edges { start, end } => {
-            if end <= start {
-                return NextEdge::End;
-            }
-            if end - start <= k {
-                return NextEdge::End;
-            }
-            let own_targets = ask_span::targets_of(targets, at);
-            let own_codes = ask_span::codes_of(codes, at);
-            let edge = edge_at(
-                own_targets,
-                own_codes,
-                k,
-                start + k,
                 expected,
                 fields,
                 escape_at,
                 escape_label,
             );
-            answer(edge, object)
+            labelled(target, label)
         }
-        Span::Index(i) => NextEdge::Index(i),
-        Span::Columns(o) => NextEdge::Columns(o),
+        Step::End => ReadEdge::Bad,
+    }
+}
+
+fn labelled(target: u32, label: EdgeLabel) -> ReadEdge
+    ensures { λ r. ⌜ readEdgeSays r ≡ withLabel target (readSays label) ⌝ }
+{
+    match label {
+        EdgeLabel::Is(l) => ReadEdge::Edge { target, label: l },
+        EdgeLabel::Bad => ReadEdge::Bad,
     }
 }

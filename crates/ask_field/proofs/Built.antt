@@ -3,7 +3,6 @@ use Prim.Native.Nat.{ℕ, _^_, _<_}
 use mathlib.Core.Path.{_≡_}
 use mathlib.Core.List.{_∷_}
 use lib.ListN.{length}
-use Rattle.columns.specs.Lists.{_!_}
 use Rattle.rules.specs.Input.{Input, Schema, objectCount}
 use Rattle.rules.specs.Edges.{Parts, edgesOf, weakTargets, graph}
 use Rattle.rules.specs.Needs.{objectsOf}
@@ -12,20 +11,20 @@ use Rattle.rules.proofs.Acceptance.{Passed}
 use Rattle.rules.proofs.Asked.{field-plain, referent-plain}
 use Rattle.rules.proofs.Finished.{field-asked, referent-asked, never-12}
 use Rattle.rules.proofs.Meets.{Meets}
-use Rattle.ask_span.proofs.Built.{built, strong}
+use Rattle.ask_span.specs.Graph.{strong}
+use Rattle.ask_span.proofs.Built.{built}
 use Rattle.ask_field.specs.Sought.{fieldFound, referentFound}
 use Rattle.ask_field.proofs.Promises.{field-promised, referent-promised}
 
 -- Columns that meet PARTS, as `from_parts` codes them: each call's answer is the same question on the plain columns.
 module _ (s : Schema) (p : Parts) (law : Meets (s .names) p) (few : length (p .labels) < 2 ^ 64) (o : ℕ) where
-  module _ (wide : (e : ℕ) → e < length (p .labels) → p .labels ! e < 4294967296) where
-    pub field-kept : (l : ℕ) → fieldFound (strong (columnsOf s p)) o l ≡ plainly (objectsOf p) o (0 ∷ fieldIn (edgesAt p o) l)
-    unfolding fieldFound
-    field-kept l = built (field-promised (columnsOf s p) o l) (field-plain s p law few wide o l) (never-12 (objectsOf p) o _)
+  pub field-kept : (l : ℕ) → fieldFound (strong (columnsOf s p)) o l ≡ plainly (objectsOf p) o (0 ∷ fieldIn (edgesAt p o) l)
+  unfolding fieldFound
+  field-kept l = built (field-promised (columnsOf s p) o l) (field-plain s p law few o l) (never-12 (objectsOf p) o _)
 
-    module _ (even : length (p .weakFrom) ≡ length (p .weakTo)) where
-      pub referent-kept : (l : ℕ) → referentFound (columnsOf s p) o l ≡ plainly (objectsOf p) o (0 ∷ referentIn (edgesAt p o) (weakIn (p .weakFrom) (p .weakTo) o) l)
-      referent-kept l = built (referent-promised (columnsOf s p) o l) (referent-plain s p law few wide o even l) (never-12 (objectsOf p) o _)
+  module _ (even : length (p .weakFrom) ≡ length (p .weakTo)) where
+    pub referent-kept : (l : ℕ) → referentFound (columnsOf s p) o l ≡ plainly (objectsOf p) o (0 ∷ referentIn (edgesAt p o) (weakIn (p .weakFrom) (p .weakTo) o) l)
+    referent-kept l = built (referent-promised (columnsOf s p) o l) (referent-plain s p law few o even l) (never-12 (objectsOf p) o _)
 
 -- The columns of an accepted build: the same question on the object's edges, as the input gives them.
 module _ (x : Input) (h : Passed x) (o : ℕ) where

@@ -10,18 +10,20 @@ use lib.ListN.{length, take}
 use borrow.Author.Tests.{le-ltb, lt-leb, ne-eqb, leb-true, leb-false}
 use Rattle.columns.specs.Lists.{_!_, anyOf, insert, sort}
 use Rattle.columns.proofs.Every.{every-tab}
+use Rattle.columns.proofs.Tests.{each-of}
 use Rattle.rules.specs.Types.{LOADER, ARRAY-ELEMENT, isElement}
 use Rattle.rules.specs.Input.{Input, Schema, objectCount}
 use Rattle.rules.specs.Edges.{Parts, Edge, edgesOf, weakTargets, graph}
 use Rattle.rules.specs.Needs.{objectsOf}
-use Rattle.rules.specs.Parts.{degree}
+use Rattle.rules.specs.Parts.{degree, isNamed}
 use Rattle.rules.specs.Questions.{Columns, columnsOf, edgesAt, weakIn, plainly, coarse, targetsOf, fieldIn, smaller, smallest, orSmallest, referentIn}
 use Rattle.rules.proofs.Acceptance.{Passed, names-few}
 use Rattle.rules.proofs.Codes.{own-at}
 use Rattle.rules.proofs.Laid.{build-meets, objects-are, edges-plain}
-use Rattle.rules.proofs.Meets.{Meets, isNamed}
+use Rattle.rules.proofs.Meets.{Meets}
 use Rattle.rules.proofs.Weak.{Sorted, first-smallest}
-use Rattle.ask_span.proofs.Built.{strong, plainly-same}
+use Rattle.ask_span.specs.Graph.{strong}
+use Rattle.ask_span.proofs.Built.{plainly-same}
 use Rattle.ask_span.proofs.FirstEdge.{none-passes}
 use Rattle.ask_field.specs.Sought.{fieldFound, referentFound}
 use Rattle.ask_field.proofs.Built.{field-kept, referent-kept, field-built, referent-built}
@@ -32,7 +34,7 @@ unfolding anyOf
 named-other names l low h = ne-eqb (coarse l) names (go (isElement l))
   where
     other : l ≡ names → ⊥
-    other e = false≢true (sym (ap₂ (λ (a b : Bool). anyOf (a ∷ b ∷ [])) (le-ltb l names (omega arith)) (lt-leb LOADER l (omega arith))) ∙ h)
+    other e = false≢true (sym (ap₂ (λ (a b : Bool). anyOf (a ∷ b ∷ [])) (le-ltb l names (omega arith)) (lt-leb LOADER l (omega arith))) ∙ each-of _ h 0)
 
     go : (b : Bool) → cond b ARRAY-ELEMENT l ≡ names → ⊥
     go true e = omega arith
@@ -61,19 +63,18 @@ smallest-first (a ∷ ws) = ap (smaller a) (smallest-first ws) ∙ first-inserte
 
 -- Columns that meet PARTS, as `from_parts` codes them: names are few, so that their count is below LOADER.
 module _ (s : Schema) (p : Parts) (law : Meets (s .names) p) (few : length (p .labels) < 2 ^ 64) (low : s .names < LOADER) (o : ℕ) where
-  module _ (wide : (e : ℕ) → e < length (p .labels) → p .labels ! e < 4294967296) where
-    pub field-count-kept : fieldFound (strong (columnsOf s p)) o (s .names) ≡ plainly (objectsOf p) o (0 ∷ [])
-    field-count-kept =
-        field-kept s p law few o wide (s .names)
-        ∙ plainly-same (objectsOf p) o (0 ∷ fieldIn (edgesAt p o) (s .names)) (0 ∷ []) (λ l. ap (λ (ts : List ℕ). 0 ∷ ts) (count-unfound (s .names) p law low o l))
+  pub field-count-kept : fieldFound (strong (columnsOf s p)) o (s .names) ≡ plainly (objectsOf p) o (0 ∷ [])
+  field-count-kept =
+      field-kept s p law few o (s .names)
+      ∙ plainly-same (objectsOf p) o (0 ∷ fieldIn (edgesAt p o) (s .names)) (0 ∷ []) (λ l. ap (λ (ts : List ℕ). 0 ∷ ts) (count-unfound (s .names) p law low o l))
 
-    pub referent-count-kept : length (p .weakFrom) ≡ length (p .weakTo) → referentFound (columnsOf s p) o (s .names) ≡ plainly (objectsOf p) o (0 ∷ take 1 (weakIn (p .weakFrom) (p .weakTo) o))
-    unfolding Sorted
-    referent-count-kept even =
-        let ws = weakIn (p .weakFrom) (p .weakTo) o in
-        referent-kept s p law few o wide even (s .names)
-        ∙ plainly-same (objectsOf p) o (0 ∷ referentIn (edgesAt p o) ws (s .names)) (0 ∷ take 1 ws)
-        (λ l. ap (λ (ts : List ℕ). 0 ∷ orSmallest ts ws) (count-unfound (s .names) p law low o l) ∙ ap (λ (ts : List ℕ). 0 ∷ ts) (first-smallest (p .weakFrom) (p .weakTo) o (law .weak-sorted)))
+  pub referent-count-kept : length (p .weakFrom) ≡ length (p .weakTo) → referentFound (columnsOf s p) o (s .names) ≡ plainly (objectsOf p) o (0 ∷ take 1 (weakIn (p .weakFrom) (p .weakTo) o))
+  unfolding Sorted
+  referent-count-kept even =
+      let ws = weakIn (p .weakFrom) (p .weakTo) o in
+      referent-kept s p law few o even (s .names)
+      ∙ plainly-same (objectsOf p) o (0 ∷ referentIn (edgesAt p o) ws (s .names)) (0 ∷ take 1 ws)
+      (λ l. ap (λ (ts : List ℕ). 0 ∷ orSmallest ts ws) (count-unfound (s .names) p law low o l) ∙ ap (λ (ts : List ℕ). 0 ∷ ts) (first-smallest (p .weakFrom) (p .weakTo) o (law .weak-sorted)))
 
 -- The columns of an accepted build.
 module _ (x : Input) (h : Passed x) (o : ℕ) where

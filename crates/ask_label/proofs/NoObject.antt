@@ -18,7 +18,8 @@ use Rattle.rules.proofs.Acceptance.{Passed}
 use Rattle.rules.proofs.Codes.{edge-in}
 use Rattle.rules.proofs.Laid.{build-meets, objects-are, edges-plain}
 use Rattle.rules.proofs.Meets.{Meets}
-use Rattle.ask_span.proofs.Built.{strong, plainly-same}
+use Rattle.ask_span.specs.Graph.{strong}
+use Rattle.ask_span.proofs.Built.{plainly-same}
 use Rattle.ask_span.proofs.FirstEdge.{none-passes}
 use Rattle.ask_label.specs.Labelled.{LabelTo}
 use Rattle.ask_label.proofs.Built.{label-kept, label-built}
@@ -34,10 +35,10 @@ none-outside names p law o t l out =
     differs k m e = omega (arith, law .targets (p .offsets ! o + k) (omega (arith, edge-in names p law o k l m, law .counted)))
 
 -- "A target that is no object is not found": of columns that meet PARTS, as `from_parts` codes them, and of every accepted build.
-pub label-outside-kept : (s : Schema) (p : Parts) → Meets (s .names) p → length (p .labels) < 2 ^ 64 → ((e : ℕ) → e < length (p .labels) → p .labels ! e < 4294967296)
-    → (o t : ℕ) → objectsOf p ≤ t → {says : List ℕ} → LabelTo (strong (columnsOf s p)) o t says → says ≡ plainly (objectsOf p) o (0 ∷ [])
-label-outside-kept s p law few wide o t out w =
-    label-kept s p law few o wide t w
+pub label-outside-kept : (s : Schema) (p : Parts) → Meets (s .names) p → length (p .labels) < 2 ^ 64 → (o t : ℕ) → objectsOf p ≤ t → {says : List ℕ}
+    → LabelTo (strong (columnsOf s p)) o t says → says ≡ plainly (objectsOf p) o (0 ∷ [])
+label-outside-kept s p law few o t out w =
+    label-kept s p law few o t w
     ∙ plainly-same (objectsOf p) o (0 ∷ labelIn (edgesAt p o) t) (0 ∷ []) (λ l. ap (λ (ls : List ℕ). 0 ∷ ls) (none-outside (s .names) p law o t l out))
 
 pub label-outside-built : (x : Input) → Passed x → (o t : ℕ) → objectCount x ≤ t → {says : List ℕ}

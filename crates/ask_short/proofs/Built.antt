@@ -11,11 +11,12 @@ use Rattle.rules.specs.Questions.{Columns, columnsOf, plainly, labelIn}
 use Rattle.rules.proofs.Acceptance.{Passed}
 use Rattle.ask_span.specs.Reading.{spanOf}
 use Rattle.ask_label.specs.Labelled.{LabelTo}
-use Rattle.ask_span.proofs.Built.{strong, span-built}
+use Rattle.ask_span.specs.Graph.{strong}
+use Rattle.ask_span.proofs.Built.{span-built}
 use Rattle.ask_label.proofs.Labels.{toward-met}
 use Rattle.ask_label.proofs.Built.{label-built}
-use Rattle.ask_short.specs.Lean.{labelFound}
-use Rattle.ask_short.proofs.Whole.{shortly, leanly, span-whole, label-whole}
+use Rattle.ask_short.specs.Lean.{shortly, leanly, labelFound}
+use Rattle.ask_short.proofs.Whole.{span-whole, label-whole}
 
 -- `labelFound` is one way to meet the contract of `label_of`.
 pub label-met : (c : Columns) (o t : ℕ) → LabelTo c o t (labelFound c o t)

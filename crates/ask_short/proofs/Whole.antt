@@ -20,12 +20,8 @@ use Rattle.ask_span.specs.Reading.{ended, spanOf}
 use Rattle.ask_span.specs.Graph.{spanIn}
 use Rattle.ask_label.specs.Labelled.{goesTo, orColumns, LabelTo}
 use Rattle.ask_label.proofs.Labels.{label-forward}
-use Rattle.ask_short.specs.Lean.{shortOf, plainOf, plainBack, leanOf, labelFound}
+use Rattle.ask_short.specs.Lean.{plainBack, shortly, plainCoded, leanly, labelFound}
 use Rattle.ask_short.proofs.Plain.{no-long, no-row, any-edge}
-
--- the same offsets without the long ones
-abbrev pub shortly : Blocked → Blocked
-shortly b = shortOf (b .bases) (b .short)
 
 pub offset-whole : (b : Blocked) (i : ℕ) → accepts (readBack (shortly b) i) ≡ true → readBack (shortly b) i ≡ readBack b i
 unfolding readBack accepts
@@ -83,10 +79,7 @@ span-whole b codes targets o h = go (ltb o (length (b .short) - 1)) h
         ap (λ (s : List ℕ). ended s next codes targets o) (offset-whole b o (p .0)) ∙ ap (λ (s : List ℕ). ended (readBack b o) s codes targets o) (offset-whole b (o + 1) (p .1))
     go false q = refl
 
--- the same labels without the escapes: what is read is the label
-abbrev pub plainCoded : Coded → Coded
-plainCoded d = plainOf (d .codes) (d .fields)
-
+-- without the escapes, what is read is the label
 nothing-read : {x : ℕ} {xs ls : List ℕ} → ls ≡ [] → ls ≡ x ∷ xs → ⊥
 nothing-read {x} {xs} {ls} e q = let z : 0 ≡ suc (length xs) = ap length (sym e ∙ q) in absurd (omega arith)
 
@@ -129,7 +122,7 @@ module _ (d : Coded) (e : ℕ) where
       go [] ms h q = absurd (nothing-read refl q)
       go (n ∷ ns) ms h q = next-step n (stepBack (plainCoded d) e k n) (stepBack d e k n) (λ y ys. code-whole (e + k) n (d .codes ! (e + k))) q ∙ ap (onward (λ n. nextOf n (stepBack d e k n))) (h _ _ refl)
 
-  walk-whole : (k : ℕ) {x : ℕ} {xs : List ℕ} → walkBack (plainCoded d) e k ≡ x ∷ xs → walkBack (plainCoded d) e k ≡ walkBack d e k
+  pub walk-whole : (k : ℕ) {x : ℕ} {xs : List ℕ} → walkBack (plainCoded d) e k ≡ x ∷ xs → walkBack (plainCoded d) e k ≡ walkBack d e k
   unfolding walkBack
   walk-whole k {x} {xs} q = go (nextBack (plainCoded d) e k) (nextBack d e k) (λ y ys. next-whole k) q
     where
@@ -144,10 +137,6 @@ module _ (d : Coded) (e : ℕ) where
       go : (t : Bool) → cond t (walkBack (plainCoded d) e k) (stepBack (plainCoded d) e k 0) ≡ x ∷ xs → cond t (walkBack (plainCoded d) e k) (stepBack (plainCoded d) e k 0) ≡ cond t (walkBack d e k) (stepBack d e k 0)
       go true q = walk-whole k q
       go false q = code-whole (e + k) 0 (d .codes ! (e + k)) q
-
--- the columns of a graph without long offsets and escapes
-abbrev pub leanly : Columns → Columns
-leanly c = leanOf (c .offsets .bases) (c .offsets .short) (c .labels .codes) (c .targets) (c .labels .fields) (c .weakFrom) (c .weakTo)
 
 -- an answer that comes by a span: where it is accepted, so is the span
 pub by-span : (s x : List ℕ) → accepts (cond (accepts s) x s) ≡ true → accepts s ≡ true

@@ -27,7 +27,17 @@ plainBack fields n c = codeBack fields [] [] 0 n c
 abbrev pub leanOf : List ℕ → List ℕ → List ℕ → List ℕ → List ℕ → List ℕ → List ℕ → Columns
 leanOf bases short codes targets fields weakFrom weakTo = graphOf (shortOf bases short) targets (plainOf codes fields) weakFrom weakTo
 
--- the same of columns that a clause names, and of those of the edges alone
+-- offsets, labels and columns as they are without the long offsets and the escapes
+abbrev pub shortly : Blocked → Blocked
+shortly b = shortOf (b .bases) (b .short)
+
+abbrev pub plainCoded : Coded → Coded
+plainCoded d = plainOf (d .codes) (d .fields)
+
+abbrev pub leanly : Columns → Columns
+leanly c = leanOf (c .offsets .bases) (c .offsets .short) (c .labels .codes) (c .targets) (c .labels .fields) (c .weakFrom) (c .weakTo)
+
+-- a graph without both, of columns that a clause names, and of those of the edges alone
 module _ {A : Type 0} (read : A → List ℕ) where
   abbrev pub leanColumns : A → A → A → A → A → A → A → Columns
   leanColumns bases short codes targets fields weakFrom weakTo =

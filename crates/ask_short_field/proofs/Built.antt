@@ -9,9 +9,9 @@ use Rattle.rules.specs.Edges.{edgesOf, weakTargets, graph}
 use Rattle.rules.specs.Questions.{Columns, columnsOf, plainly, fieldIn, referentIn}
 use Rattle.rules.proofs.Acceptance.{Passed}
 use Rattle.ask_field.specs.Sought.{fieldFound, referentFound}
-use Rattle.ask_span.proofs.Built.{strong}
+use Rattle.ask_span.specs.Graph.{strong}
 use Rattle.ask_field.proofs.Built.{field-built, referent-built}
-use Rattle.ask_short.proofs.Whole.{leanly}
+use Rattle.ask_short.specs.Lean.{leanly}
 use Rattle.ask_short_field.proofs.Whole.{field-whole, referent-whole}
 
 module _ (x : Input) (h : Passed x) (o : ℕ) where

@@ -20,7 +20,8 @@ use Rattle.ask_field.specs.Sought.{stops, decoded, firstSought, elementAt, soug
 use Rattle.ask_field.specs.declared.Sought.{Sought}
 use Rattle.ask_field.specs.declared.Sought.the-variants.{At, Nothing, Bad}
 use Rattle.ask_field.proofs.Placed.{decoded-bad, decoded-end}
-use Rattle.ask_short.proofs.Whole.{no-columns, span-whole, plainCoded, coarse-whole, leanly, by-span}
+use Rattle.ask_short.specs.Lean.{plainCoded, leanly}
+use Rattle.ask_short.proofs.Whole.{no-columns, span-whole, coarse-whole, by-span}
 
 -- A walk that reads labels without the escapes, and meets no edge that it cannot read, is the walk that reads them all.
 module _ (d : Coded) (e n l : ℕ) where

@@ -14,7 +14,7 @@ use Rattle.rules.specs.Edges.{Parts, Edge, edgesOf, offset, graph}
 use Rattle.rules.specs.Needs.{objectsOf}
 use Rattle.rules.specs.Questions.{Columns, columnsOf, edgesAt, plainly, objectsIn, Promised}
 use Rattle.rules.proofs.Acceptance.{Passed}
-use Rattle.rules.proofs.Asked.{objects-same, span-plain, count-plain, weak-plain}
+use Rattle.rules.proofs.Asked.{objects-same, reads, edges-back, span-plain, count-plain, weak-plain}
 use Rattle.rules.proofs.Finished.{labels-few, all-read, edges-read, span-asked, count-asked, weak-asked, never-12}
 use Rattle.rules.proofs.Laid.{build-meets, objects-are}
 use Rattle.rules.proofs.Meets.{Meets}
@@ -34,10 +34,6 @@ plainly-same n o a b h = go (ltb o n) refl
     go true e = h (ltb-true o n e)
     go false e = refl
 
--- The columns that a question about edges is lent: all but the weak pairs.
-abbrev pub strong : Columns → Columns
-strong c = record { offsets = c .offsets; targets = c .targets; labels = c .labels; weakFrom = []; weakTo = [] }
-
 -- Columns that meet PARTS, as `from_parts` codes them: each call's answer is the same question on the plain columns.
 module _ (s : Schema) (p : Parts) (law : Meets (s .names) p) (few : length (p .labels) < 2 ^ 64) (o : ℕ) where
   abbrev g : Columns
@@ -46,16 +42,19 @@ module _ (s : Schema) (p : Parts) (law : Meets (s .names) p) (few : length (p .l
   abbrev m : ℕ
   m = objectsOf p
 
-  module _ (wide : (e : ℕ) → e < length (p .labels) → p .labels ! e < 4294967296) where
-    pub span-kept : spanIn g o ≡ plainly m o (0 ∷ p .offsets ! o ∷ p .offsets ! suc o ∷ [])
-    span-kept = built (span-promised g o) (span-plain s p law few wide o) (never-12 m o _)
+  pub span-kept : spanIn g o ≡ plainly m o (0 ∷ p .offsets ! o ∷ p .offsets ! suc o ∷ [])
+  span-kept = built (span-promised g o) (span-plain s p law few o) (never-12 m o _)
 
-    pub count-kept : countOf (spanIn g o) ≡ plainly m o (0 ∷ length (edgesAt p o) ∷ [])
-    count-kept = built (count-promised g o) (count-plain s p law few wide o) (never-12 m o _)
+  pub count-kept : countOf (spanIn g o) ≡ plainly m o (0 ∷ length (edgesAt p o) ∷ [])
+  count-kept = built (count-promised g o) (count-plain s p law few o) (never-12 m o _)
 
-    module _ (even : length (p .weakFrom) ≡ length (p .weakTo)) where
-      pub weak-kept : weakRowsOf (length (g .offsets .short)) (g .weakFrom) (g .weakTo) o ≡ plainly m o (0 ∷ rank (p .weakFrom) o ∷ rank (p .weakFrom) (suc o) ∷ [])
-      weak-kept = built (weak-promised g o) (weak-plain s p law few wide o even) (never-12 m o _)
+  pub targets-kept : o < m → spanPart (spanIn g o) (g .targets) ≡ map (λ (e : Edge). e .target) (edgesAt p o)
+  targets-kept l =
+      targets-read g o (omega (arith, objects-same s p law few)) (reads s p law few o l) ∙ ap (map (λ (e : Edge). e .target)) (edges-back s p law few o l)
+
+  module _ (even : length (p .weakFrom) ≡ length (p .weakTo)) where
+    pub weak-kept : weakRowsOf (length (g .offsets .short)) (g .weakFrom) (g .weakTo) o ≡ plainly m o (0 ∷ rank (p .weakFrom) o ∷ rank (p .weakFrom) (suc o) ∷ [])
+    weak-kept = built (weak-promised g o) (weak-plain s p law few o even) (never-12 m o _)
 
 -- The columns of an accepted build: the same question on the object's edges, as the input gives them.
 module _ (x : Input) (h : Passed x) (o : ℕ) where

@@ -55,6 +55,15 @@ span-inside c codes targets o {a} {b} e = go (ltb o (length (c .short) - 1)) e
     go true e = ended-inside (readBack c o) (readBack c (o + 1)) codes targets o e
     go false e = absurd (omega (arith, ap (λ (xs : List ℕ). xs ! 0) e))
 
+-- and is of an object that exists
+pub span-exists : (c : Blocked) (codes targets o : ℕ) {a b : ℕ} → spanOf c codes targets o ≡ 0 ∷ a ∷ b ∷ [] → o < length (c .short) - 1
+unfolding spanOf
+span-exists c codes targets o {a} {b} e = go (ltb o (length (c .short) - 1)) refl e
+  where
+    go : (t : Bool) → ltb o (length (c .short) - 1) ≡ t → cond t (ended (readBack c o) (readBack c (o + 1)) codes targets o) (11 ∷ o ∷ []) ≡ 0 ∷ a ∷ b ∷ [] → o < length (c .short) - 1
+    go true h e = ltb-true o (length (c .short) - 1) h
+    go false h e = absurd (omega (arith, ap (λ (xs : List ℕ). xs ! 0) e))
+
 -- the part that a span says, where it is one of the column's
 pub part-falls : (xs : List ℕ) (a b : ℕ) → b < a → spanPart (0 ∷ a ∷ b ∷ []) xs ≡ []
 unfolding spanPart accepts allOf

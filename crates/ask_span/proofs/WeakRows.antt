@@ -1,27 +1,31 @@
--- On the columns of an accepted build the rows that `weak_referents` answers hold the object's weak targets as the input gives them, sorted. Assumes nothing.
-use Prim.Native.Nat.{ℕ, suc, _≤_, _<_}
+-- On the columns of an accepted build the rows that `weak_referents` answers hold the object's weak targets as the input gives them, sorted; after `from_parts`
+-- those that were handed over. Assumes nothing.
+use Prim.Native.Nat.{ℕ, suc, _^_, _≤_, _<_}
 use native.Mathlib.Omega.{arith}
 use mathlib.Core.Path.{_≡_, refl, sym, ap, ap₂, _∙_}
 use mathlib.Core.Logic.{_⊎_, inl, inr}
 use mathlib.Core.Bool.{Bool, true, false, cond, _||_, _&&_}
 use mathlib.Core.List.{List, [], _∷_}
-use lib.Dec.{eqb, leb, ltb}
+use lib.Dec.{eqb, leb}
 use lib.ListN.{length}
 use borrow.Author.Tests.{lt-ltb, le-ltb, eq-eqb, ne-eqb, eqb-true, eqb-false}
 use Rattle.columns.specs.Lists.{collect, insert, sort}
 use Rattle.columns.specs.Ranks.{rank}
 use Rattle.columns.proofs.Lists.{lt-or-ge}
 use Rattle.columns.proofs.Every.{Chain, sort-chain}
-use Rattle.rules.specs.Input.{Input, objectCount}
-use Rattle.rules.specs.Edges.{Pair, pairLe, pairsOf, weakPairs, weakTargets, graph}
-use Rattle.rules.specs.Questions.{Columns, columnsOf, weakRead}
+use Rattle.rules.specs.Input.{Input, Schema, objectCount}
+use Rattle.rules.specs.Edges.{Parts, Pair, pairLe, pairsOf, weakPairs, weakTargets, graph}
+use Rattle.rules.specs.Needs.{objectsOf}
+use Rattle.rules.specs.Questions.{Columns, columnsOf, plainly, weakRead, weakIn}
 use Rattle.rules.proofs.Acceptance.{Passed}
+use Rattle.rules.proofs.Asked.{weak-back}
 use Rattle.rules.proofs.Laid.{either-pair}
+use Rattle.rules.proofs.Meets.{Meets}
 use Rattle.rules.proofs.Finished.{weak-rows, mine-all}
 use Rattle.rules.proofs.Weak.{mine, pair-climbs}
 use Rattle.ask_span.specs.Reading.{spanPart, weakRowsOf}
 use Rattle.ask_span.proofs.Spans.{rank-next, part-is, weak-inside}
-use Rattle.ask_span.proofs.Built.{weak-built}
+use Rattle.ask_span.proofs.Built.{weak-built, weak-kept}
 
 -- How two pairs compare, by their objects: a lower one, the same, a higher one.
 lower : (p q : Pair) → p .object < q .object → pairLe p q ≡ true
@@ -95,12 +99,28 @@ module _ (o : ℕ) where
       go true e ih = insert-own p (sort pairLe ps) (eqb-true (p .object) o e) (sort-chain pairLe either-pair ps) ∙ ap (insert leb (p .target)) ih
       go false e ih = insert-other p (sort pairLe ps) (eqb-false (p .object) o e) ∙ ih
 
+-- Where the rows answered are those of the ranks, the part that they say is what is read there.
+rows-read : (c : Columns) (n o : ℕ) → o < n
+    → weakRowsOf (length (c .offsets .short)) (c .weakFrom) (c .weakTo) o ≡ plainly n o (0 ∷ rank (c .weakFrom) o ∷ rank (c .weakFrom) (suc o) ∷ [])
+    → spanPart (weakRowsOf (length (c .offsets .short)) (c .weakFrom) (c .weakTo) o) (c .weakTo) ≡ weakRead c o
+unfolding weakRead
+rows-read c n o l e =
+    let a = rank (c .weakFrom) o in
+    let z = rank (c .weakFrom) (suc o) in
+    let says : weakRowsOf (length (c .offsets .short)) (c .weakFrom) (c .weakTo) o ≡ 0 ∷ a ∷ z ∷ []
+    = e ∙ ap (λ (b : Bool). cond b (0 ∷ a ∷ z ∷ []) (11 ∷ o ∷ [])) (lt-ltb o n l) in
+    ap (λ (s : List ℕ). spanPart s (c .weakTo)) says
+    ∙ part-is (c .weakTo) a z (rank-next (c .weakFrom) o) (weak-inside (length (c .offsets .short)) (c .weakFrom) (c .weakTo) o says)
+
+-- Columns that meet PARTS, as `from_parts` codes them: the rows hold the targets of o's pairs.
+pub weak-targets-kept : (s : Schema) (p : Parts) (law : Meets (s .names) p) (few : length (p .labels) < 2 ^ 64) (o : ℕ) → length (p .weakFrom) ≡ length (p .weakTo)
+    → o < objectsOf p → let c = columnsOf s p in spanPart (weakRowsOf (length (c .offsets .short)) (c .weakFrom) (c .weakTo) o) (c .weakTo) ≡ weakIn (p .weakFrom) (p .weakTo) o
+unfolding columnsOf
+weak-targets-kept s p law few o even l = rows-read (columnsOf s p) (objectsOf p) o l (weak-kept s p law few o even) ∙ weak-back s p law few even o
+
 module _ (x : Input) (h : Passed x) (o : ℕ) (l : o < objectCount x) where
   abbrev c : Columns
   c = columnsOf (x .schema) (graph x)
-
-  abbrev start : ℕ → ℕ
-  start i = rank (graph x .weakFrom) i
 
   -- The rows of o's weak pairs hold its weak targets, sorted, repeats kept.
   pub weak-rows-built : weakRead c o ≡ sort leb (weakTargets x o)
@@ -111,10 +131,5 @@ module _ (x : Input) (h : Passed x) (o : ℕ) (l : o < objectCount x) where
 
   -- So does the part of the weak targets that the answer of `weak_referents` says.
   pub weak-targets-built : spanPart (weakRowsOf (length (c .offsets .short)) (c .weakFrom) (c .weakTo) o) (c .weakTo) ≡ sort leb (weakTargets x o)
-  unfolding columnsOf weakRead
-  weak-targets-built =
-      let says : weakRowsOf (length (c .offsets .short)) (c .weakFrom) (c .weakTo) o ≡ 0 ∷ start o ∷ start (suc o) ∷ [] =
-      weak-built x h o ∙ ap (λ (b : Bool). cond b (0 ∷ start o ∷ start (suc o) ∷ []) (11 ∷ o ∷ [])) (lt-ltb o (objectCount x) l) in
-      ap (λ (s : List ℕ). spanPart s (c .weakTo)) says
-      ∙ part-is (c .weakTo) (start o) (start (suc o)) (rank-next (graph x .weakFrom) o) (weak-inside (length (c .offsets .short)) (c .weakFrom) (c .weakTo) o says)
-      ∙ weak-rows-built
+  unfolding columnsOf
+  weak-targets-built = rows-read c (objectCount x) o l (weak-built x h o) ∙ weak-rows-built

@@ -28,3 +28,7 @@ module _ {A : Type 0} (read : A → List ℕ) where
 
 abbrev pub spanIn : Columns → ℕ → List ℕ
 spanIn c o = spanOf (c .offsets) (length (c .labels .codes)) (length (c .targets)) o
+
+-- the columns that a question about edges is lent: all but the weak pairs
+abbrev pub strong : Columns → Columns
+strong c = graphOf (c .offsets) (c .targets) (c .labels) [] []

@@ -9,7 +9,9 @@ use Rattle.answer_numbers.specs.Told.{told}
 use Rattle.slot_rows.specs.declared.SlotRow.{SlotRow}
 use Rattle.slot_rows.specs.declared.Filled.{Filled}
 use Rattle.slot_rows.specs.Rows.{filledSays, left, Filling}
-use Rattle.yokefathom.specs.Calls.{BuildTold, PartsTold, SlotsTold}
+use Rattle.rules.specs.Questions.{EdgesLeft}
+use Rattle.ask_edges.specs.Object.{leftEdges}
+use Rattle.yokefathom.specs.Calls.{BuildTold, PartsTold, SlotsTold, EdgesTold}
 
 pub build-told : {left : BuildLeft} {says answer ts ls fs ws rs wk : List ℕ} {coded : CodedLeft} {a : List (List ℕ)} → answer ≡ told 9 says → leftOf says ts ls fs ws rs wk coded a ≡ left → BuildTold left answer ts ls fs ws rs wk coded a
 build-told {left} {says} {answer} {ts} {ls} {fs} {ws} {rs} {wk} {coded} {a} e l =
@@ -23,3 +25,10 @@ parts-told {left} {says} {answer} {coded} e l =
 
 pub slots-told : {rows : List SlotRow} {a b c : ℕ} {r : Filled} {answer o l w : List ℕ} → answer ≡ told 4 (filledSays r) → Filling rows a b c r o l w → SlotsTold (left rows a b c) answer o l w
 slots-told e f = record { told-as = e ∙ ap (told 4) (f .answer); offsets = f .offsets; labels = f .labels; weak = f .weak }
+
+pub edges-told : {left : EdgesLeft} {says answer t l : List ℕ} → answer ≡ told 4 says → leftEdges says t l ≡ left → EdgesTold left answer t l
+edges-told e f = record {
+  told-as = e ∙ ap (λ (x : EdgesLeft). told 4 (x .says)) f;
+  targets = ap (λ (x : EdgesLeft). x .targets) f;
+  labels = ap (λ (x : EdgesLeft). x .labels) f;
+}

@@ -8,7 +8,7 @@ use Rattle.rules.specs.declared.ExactLabel.{ExactLabel}
 use Rattle.rules.specs.declared.LabelOf.{LabelOf}
 use Rattle.rules.specs.Types.{exactSays, labelOfSays}
 use Rattle.rules.specs.Built.{CodedLeft, BuildLeft, PartsLeft, SlotsLeft}
-use Rattle.rules.specs.Questions.{Columns}
+use Rattle.rules.specs.Questions.{Columns, EdgesLeft}
 use Rattle.build_rooms.specs.Stages.{leftOf}
 use Rattle.from_parts.specs.Parts.{leftAs}
 use Rattle.ask_label.specs.Labelled.{ExactAt, LabelTo}
@@ -34,6 +34,12 @@ pub record SlotsTold (left : SlotsLeft) (answer o l w : List ℕ) : Type 0 where
   pub offsets : o ≡ left .offsets
   pub labels : l ≡ left .labels
   pub weak : w ≡ left .weak
+
+-- One object's edges, told likewise.
+pub record EdgesTold (left : EdgesLeft) (answer t l : List ℕ) : Type 0 where
+  pub told-as : answer ≡ told 4 (left .says)
+  pub targets : t ≡ left .targets
+  pub labels : l ≡ left .labels
 
 -- An exact label, told: an answer that meets the contract of `exact_label`, as numbers; and likewise one of `label_of`.
 pub record ExactTold (c : Columns) (o k : ℕ) (answer : List ℕ) : Type 0 where

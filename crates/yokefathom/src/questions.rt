@@ -1,7 +1,5 @@
 // The questions, over the used parts of a graph's columns; nothing is written but the answer.
-use rules::Span;
 ghost use mathlib.Core.Path.{_≡_};
-ghost use mathlib.Core.List.{[], _∷_};
 ghost use lib.ListN.{length};
 ghost use Rattle.columns.specs.Loans.{entry, exit};
 ghost use Rattle.rules.specs.Tables.{offsetColumns};
@@ -9,11 +7,12 @@ ghost use Rattle.ask_span.specs.Reading.{spanOf, countOf, weakRowsOf};
 ghost use Rattle.ask_span.specs.Graph.{graphColumns, edgeColumns};
 ghost use Rattle.ask_label.specs.Labelled.{coarseAt};
 ghost use Rattle.ask_field.specs.Sought.{fieldFound, referentFound};
-ghost use Rattle.ask_short.specs.Lean.{shortOf, leanColumns, leanEdges, plainBack, labelFound};
-ghost use Rattle.ask_edges.specs.Read.{edgeNext};
+ghost use Rattle.ask_short.specs.Lean.{shortOf, leanColumns, leanEdges, labelFound};
+ghost use Rattle.ask_edges.specs.Object.{edgesFound};
+ghost use Rattle.ask_short_edges.specs.Replied.{EdgesReplied};
 ghost use Rattle.answer_numbers.specs.Told.{told};
-ghost use Rattle.answer_replies.specs.Reply.{spanNumber, replyOf, labelNext};
-ghost use Rattle.yokefathom.specs.Calls.{ExactTold, LabelTold};
+ghost use Rattle.answer_replies.specs.Reply.{spanNumber, replyOf};
+ghost use Rattle.yokefathom.specs.Calls.{EdgesTold, ExactTold, LabelTold};
 
 // Where the edges of an object sit in the target column.
 #[no_mangle]
@@ -274,36 +273,42 @@ pub extern "C" fn yokefathom_referent(
     *answer = says;
 }
 
-// Edge k of an object whose span is given, where the edges before it were read in order: `expected` is 0 for the first, and then what the edge before gave.
+// All edges of an object, their targets and exact labels from the front of the columns lent. Zeros behind them; or a refusal, and both columns zero.
 #[no_mangle]
-pub extern "C" fn yokefathom_edge(
+pub extern "C" fn yokefathom_object_edges(
     object: usize,
-    start: usize,
-    end: usize,
-    k: usize,
-    expected: u32,
+    bases: &[u64],
+    short: &[u16],
+    long_at: &[u32],
+    long_value: &[u64],
+    edge_codes: &[u16],
     targets: &[u32],
-    codes: &[u16],
     fields: &[u32],
     escape_at: &[u64],
     escape_label: &[u32],
-    answer: &mut [u64; 5],
+    own_targets: &mut [u32],
+    own_labels: &mut [u32],
+    answer: &mut [u64; 4],
 )
-    ensures { λ _. ⌜ exit answer ≡ told 5 (edgeNext (0 ∷ start ∷ end ∷ []) (entry targets) (entry codes)
-        (entry fields) (entry «escape_at») (entry «escape_label») object k expected) ⌝ }
+    ensures { λ _. ⌜ (
+        let graph = edgeColumns entry bases short «long_at» «long_value» «edge_codes» targets fields «escape_at» «escape_label» in
+        EdgesTold (edgesFound graph object (length (entry «own_targets»)) (length (entry «own_labels»))) (exit answer) (exit «own_targets») (exit «own_labels»)) ⌝ }
 {
-    let found = ask_edges::edge_of(
+    let found = ask_edges::object_edges(
+        bases,
+        short,
+        long_at,
+        long_value,
+        edge_codes,
         targets,
-        codes,
         fields,
         escape_at,
         escape_label,
-        Span::Edges { start, end },
         object,
-        k,
-        expected,
+        own_targets,
+        own_labels,
     );
-    let says = answer_numbers::next_edge(found);
+    let says = answer_numbers::object_edges(found);
     *answer = says;
 }
 
@@ -390,11 +395,30 @@ pub extern "C" fn yokefathom_lean_referent(
     answer_replies::referent_reply(found)
 }
 
-// The label that a code says by itself, where `expected` is what the edge before left behind, and what is expected behind this one.
+// All edges of an object, and 2 more than how many they are; after a 0 both columns are zero.
 #[no_mangle]
-pub extern "C" fn yokefathom_lean_label(code: u16, expected: u32, fields: &[u32]) -> u64
-    ensures { λ r. ⌜ r ≡ labelNext expected (plainBack (entry fields) expected code) ⌝ }
+pub extern "C" fn yokefathom_lean_object_edges(
+    object: usize,
+    bases: &[u64],
+    short: &[u16],
+    edge_codes: &[u16],
+    targets: &[u32],
+    fields: &[u32],
+    own_targets: &mut [u32],
+    own_labels: &mut [u32],
+) -> u64
+    ensures { λ r. ⌜ (
+        let graph = leanEdges entry bases short «edge_codes» targets fields in
+        EdgesReplied (edgesFound graph object (length (entry «own_targets»)) (length (entry «own_labels»))) r (exit «own_targets») (exit «own_labels»)) ⌝ }
 {
-    let found = ask_short::label::read_code(code, expected, fields);
-    answer_replies::code_reply(found, expected)
+    ask_short_edges::object_edges(
+        bases,
+        short,
+        edge_codes,
+        targets,
+        fields,
+        object,
+        own_targets,
+        own_labels,
+    )
 }

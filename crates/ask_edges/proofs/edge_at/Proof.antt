@@ -1,17 +1,30 @@
--- `ask_edges::edge_at` meets its contract: by what stands there, and its label. Assumes nothing.
-use mathlib.Core.Path.{sym, ap, _∙_}
-use Rattle.ask_edges.specs.declared.Step.{Step}
-use Rattle.ask_edges.specs.Read.{edgeBack}
-use Rattle.ask_edges.proofs.InOrder.{edge-is}
+-- `ask_edges::edge_at` meets its contract: by what stands there, its target and its label. Assumes nothing.
+use mathlib.Core.Path.{sym, _∙_}
+use native.Mathlib.Omega.{arith}
+use Rattle.ask_edges.proofs.InOrder.{edge-out, edge-is, edge-none}
 use borrow.Author.Needs.{needs}
 use Rattle.ask_edges.proofs.edge_at.Statement.{statement}
 use Rattle.ask_edges.proofs.edge_at.Tie as tie
 
 returns : tie.Need-returns
-returns c = edge-is _ _ _ (sym (c .before .before .before .stands .given .1) ∙ c .before .before .before .before .before .read .ensures) (c .before .read-code .ensures) (c .labelled .ensures)
+returns c =
+    let at-stands = c .before .before .before in
+    let a = at-stands .before .before .before .before .before .before .before .before .args in
+    edge-out (a .objects) (a .fields .now) (a .escape-at .now) (a .escape-label .now) (a .place) (a .expected)
+    (sym (at-stands .stands .given .1) ∙ at-stands .before .before .read .ensures) (omega (arith, c .before .index .ensures))
 
 returns-2 : tie.Need-returns-2
-returns-2 c = ap (λ (s : Step). edgeBack s (c .before .before .before .before .before .before .before .before .args .fields .now) (c .before .before .before .before .before .before .before .before .args .escape-at .now) (c .before .before .before .before .before .before .before .before .args .escape-label .now)) (sym (c .enum-told .given .1) ∙ c .before .before .read .ensures)
+returns-2 c =
+    let at-stands = c .before .before .before .before .before in
+    let a = at-stands .before .before .before .before .before .before .before .before .args in
+    edge-is (a .objects) (a .fields .now) (a .escape-at .now) (a .escape-label .now) (a .place) (a .expected)
+    (sym (at-stands .stands .given .1) ∙ at-stands .before .before .read .ensures) (omega (arith, c .before .before .before .index .ensures)) (c .before .read-code .ensures) (c .labelled .ensures)
+
+returns-3 : tie.Need-returns-3
+returns-3 c =
+    let a = c .before .before .before .before .before .before .before .before .args in
+    edge-none (a .objects) (a .fields .now) (a .escape-at .now) (a .escape-label .now) (a .place) (a .expected)
+    (sym (c .enum-told .given .1) ∙ c .before .before .read .ensures)
 
 pub edge-at-spec : {M : Type 1} → statement M
 edge-at-spec =
@@ -20,7 +33,9 @@ edge-at-spec =
     (λ c κs. search needs)
     (λ c. search needs)
     (λ c κs. search needs)
+    returns
+    (λ c κs. search needs)
     (λ c κs. search needs)
     (λ c. search needs)
-    returns
-    returns-2)
+    returns-2
+    returns-3)

@@ -1,7 +1,5 @@
 -- `ask_edges::labelled` meets its contract: by whether a label was read. Assumes nothing.
-use mathlib.Core.Path.{sym, ap, _∙_}
-use mathlib.Core.List.{[], _∷_}
-use Prim.Native.Nat.{ℕ}
+use mathlib.Core.Path.{sym, ap}
 use Rattle.labels.specs.declared.EdgeLabel.{EdgeLabel}
 use Rattle.labels.specs.Reading.{readSays}
 use Rattle.ask_edges.specs.Read.{withLabel}
@@ -10,16 +8,7 @@ use Rattle.ask_edges.proofs.labelled.Statement.{statement}
 use Rattle.ask_edges.proofs.labelled.Tie as tie
 
 returns : tie.Need-returns
-returns c =
-    ap (λ (n : ℕ). 0 ∷ c .before .before .before .before .args .target ∷ c .before .before .label .given .0 .0 ∷ n ∷ []) (c .after .ensures)
-    ∙ sym (ap (λ (l : EdgeLabel). withLabel (c .before .before .before .before .args .target) (c .before .before .before .before .args .expected) (readSays l)) (c .before .before .label .given .1))
+returns c = sym (ap (λ (l : EdgeLabel). withLabel (c .before .before .before .args .target) (readSays l)) (c .before .label .given .1))
 
 pub labelled-spec : {M : Type 1} → statement M
-labelled-spec =
-    tie.close
-    (tie.spec
-    (λ c. search needs)
-    (λ c κs. search needs)
-    (λ c. search needs)
-    returns
-    (λ c. search needs))
+labelled-spec = tie.close (tie.spec (λ c. search needs) (λ c. search needs) returns (λ c. search needs))
