@@ -2,6 +2,7 @@
 use crate::case::Numbers;
 use crate::edges;
 use crate::lists;
+use case_text::arrays;
 use case_text::column::used_u16;
 use case_text::column::used_u32;
 use case_text::column::used_u64;
@@ -126,6 +127,8 @@ fn objects(
     codes: &[u16],
     count: usize,
 ) {
+    let mut own_targets = arrays::edges_u32();
+    let mut own_labels = arrays::edges_u32();
     let mut o = 0;
     while o < count {
         edges::object(
@@ -141,6 +144,8 @@ fn objects(
             escape_label,
             codes,
             o,
+            &mut own_targets,
+            &mut own_labels,
         );
         o += 1;
     }

@@ -1,8 +1,9 @@
-// The line of an object: its span, its edges by the reader of the coded columns, and its weak targets.
-use ask_edges::NextEdge;
+// The line of an object: its span, its edges in exactly the room that they need, what is said of one number less, and its weak targets.
+use crate::show::zero_u32;
 use case_text::column;
 use case_text::form;
 use rules::Label;
+use rules::ObjectEdges;
 use rules::Span;
 use rules::WeakReferents;
 
@@ -28,12 +29,18 @@ pub(crate) fn label(l: u32) {
     print::number(columns::wide(l - Label::ARRAY_ELEMENT));
 }
 
-// A question's refusal, by document 01's number: INDEX or COLUMNS.
+// A question's refusal, by document 01's number: ROOM, INDEX or COLUMNS.
 fn fault(number: u64, place: usize) {
-    if number == 11 {
-        print::word(b"index ");
-    } else {
-        print::word(b"columns ");
+    match number {
+        9 => {
+            print::word(b"room ");
+        }
+        11 => {
+            print::word(b"index ");
+        }
+        _ => {
+            print::word(b"columns ");
+        }
     }
     print::number(place as u64);
 }
@@ -41,11 +48,6 @@ fn fault(number: u64, place: usize) {
 pub(crate) fn fault_line(number: u64, place: usize) {
     fault(number, place);
     print::word(b"\n");
-}
-
-fn no_edge(number: u64, place: usize) {
-    print::word(b" ");
-    fault_line(number, place);
 }
 
 fn show_run(r: Run) {
@@ -94,59 +96,98 @@ fn with_edge(r: Run, target: u32, l: u32) -> Run {
     }
 }
 
-fn edges(
-    targets: &[u32],
-    codes: &[u16],
-    fields: &[u32],
-    escape_at: &[u64],
-    escape_label: &[u32],
-    at: Span,
-    object: usize,
-) {
+fn runs(own_targets: &[u32], own_labels: &[u32]) {
     let mut run = Run {
         some: false,
         target: 0,
         first: 0,
         last: 0,
     };
-    let mut expected = 0;
     let mut k = 0;
-    while k < codes.len() {
-        match ask_edges::edge_of(
-            targets,
-            codes,
-            fields,
-            escape_at,
-            escape_label,
-            at,
-            object,
-            k,
-            expected,
-        ) {
-            NextEdge::Edge {
-                target: t,
-                label: l,
-                expected: e,
-            } => {
-                run = with_edge(run, t, l);
-                expected = e;
-            }
-            NextEdge::End => {
-                show_run(run);
-                return;
-            }
-            NextEdge::Index(i) => {
-                no_edge(11, i);
-                return;
-            }
-            NextEdge::Columns(o) => {
-                no_edge(12, o);
-                return;
-            }
+    while k < own_targets.len() {
+        if own_labels.len() <= k {
+            return;
         }
+        run = with_edge(run, own_targets[k], own_labels[k]);
         k += 1;
     }
     show_run(run);
+}
+
+// A refusal, and a mark where it did not leave both columns zero.
+fn no_edges(number: u64, place: usize, own_targets: &[u32], own_labels: &[u32]) {
+    print::word(b" ");
+    fault(number, place);
+    if !zero_u32(zero_u32(true, own_targets), own_labels) {
+        print::word(b"!");
+    }
+}
+
+fn show_edges(found: ObjectEdges, own_targets: &[u32], own_labels: &[u32]) {
+    match found {
+        ObjectEdges::Edges(_) => runs(own_targets, own_labels),
+        ObjectEdges::Room(b) => no_edges(9, b, own_targets, own_labels),
+        ObjectEdges::Index(i) => no_edges(11, i, own_targets, own_labels),
+        ObjectEdges::Columns(o) => no_edges(12, o, own_targets, own_labels),
+    }
+}
+
+// The edges of an object, in room for so many targets and labels.
+fn edges(
+    targets: &[u32],
+    bases: &[u64],
+    short: &[u16],
+    long_at: &[u32],
+    long_value: &[u64],
+    fields: &[u32],
+    escape_at: &[u64],
+    escape_label: &[u32],
+    codes: &[u16],
+    object: usize,
+    targets_room: usize,
+    labels_room: usize,
+    own_targets: &mut [u32],
+    own_labels: &mut [u32],
+) {
+    if own_targets.len() < targets_room {
+        return;
+    }
+    if own_labels.len() < labels_room {
+        return;
+    }
+    let found = ask_edges::object_edges(
+        bases,
+        short,
+        long_at,
+        long_value,
+        codes,
+        targets,
+        fields,
+        escape_at,
+        escape_label,
+        object,
+        &mut own_targets[0..targets_room],
+        &mut own_labels[0..labels_room],
+    );
+    show_edges(
+        found,
+        &own_targets[0..targets_room],
+        &own_labels[0..labels_room],
+    );
+}
+
+// How many edges a span has.
+fn count_of(at: Span) -> usize {
+    match at {
+        Span::Edges { start, end } => {
+            if end < start {
+                return 0;
+            }
+            end - start
+        }
+        Span::Index(_) => 0,
+        Span::Columns(_) => 0,
+    }
 }
 
 fn ends(start: usize, end: usize) {
@@ -189,6 +230,60 @@ fn show_weak(weak_to: &[u32], rows: WeakReferents) {
     }
 }
 
+// Of an object with edges, each of the two columns one number short.
+fn one_short(
+    targets: &[u32],
+    bases: &[u64],
+    short: &[u16],
+    long_at: &[u32],
+    long_value: &[u64],
+    fields: &[u32],
+    escape_at: &[u64],
+    escape_label: &[u32],
+    codes: &[u16],
+    object: usize,
+    count: usize,
+    own_targets: &mut [u32],
+    own_labels: &mut [u32],
+) {
+    if count == 0 {
+        return;
+    }
+    print::word(b" short");
+    edges(
+        targets,
+        bases,
+        short,
+        long_at,
+        long_value,
+        fields,
+        escape_at,
+        escape_label,
+        codes,
+        object,
+        count - 1,
+        count,
+        own_targets,
+        own_labels,
+    );
+    edges(
+        targets,
+        bases,
+        short,
+        long_at,
+        long_value,
+        fields,
+        escape_at,
+        escape_label,
+        codes,
+        object,
+        count,
+        count - 1,
+        own_targets,
+        own_labels,
+    );
+}
+
 pub(crate) fn object(
     targets: &[u32],
     weak_from: &[u32],
@@ -202,13 +297,46 @@ pub(crate) fn object(
     escape_label: &[u32],
     codes: &[u16],
     o: usize,
+    own_targets: &mut [u32],
+    own_labels: &mut [u32],
 ) {
     print::word(b"  object ");
     print::number(o as u64);
     let at = ask_span::span(bases, short, long_at, long_value, codes, targets, o);
     show_span(at);
     print::word(b" edges");
-    edges(targets, codes, fields, escape_at, escape_label, at, o);
+    let count = count_of(at);
+    edges(
+        targets,
+        bases,
+        short,
+        long_at,
+        long_value,
+        fields,
+        escape_at,
+        escape_label,
+        codes,
+        o,
+        count,
+        count,
+        own_targets,
+        own_labels,
+    );
+    one_short(
+        targets,
+        bases,
+        short,
+        long_at,
+        long_value,
+        fields,
+        escape_at,
+        escape_label,
+        codes,
+        o,
+        count,
+        own_targets,
+        own_labels,
+    );
     show_weak(
         weak_to,
         ask_span::weak_referents(short, weak_from, weak_to, o),

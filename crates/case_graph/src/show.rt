@@ -66,7 +66,7 @@ fn zero_u16(before: bool, xs: &[u16]) -> bool {
     before
 }
 
-fn zero_u32(before: bool, xs: &[u32]) -> bool {
+pub(crate) fn zero_u32(before: bool, xs: &[u32]) -> bool {
     let mut i = 0;
     while i < xs.len() {
         if xs[i] != 0 {

@@ -1,11 +1,11 @@
 // Cases (i) and (j): questions to the finished columns, which cases (a) to (d) give.
 use crate::refused;
-use ask_edges::NextEdge;
 use case_text::form;
 use rules::ExactLabel;
 use rules::Field;
 use rules::Label;
 use rules::LabelOf;
+use rules::ObjectEdges;
 use rules::Referent;
 
 fn object_of(t: u32) {
@@ -175,43 +175,26 @@ fn edge(target: u32, label: u32) {
     );
 }
 
-fn end() {
-    print::word(b"    end\n");
-}
-
-fn no_edge(line: usize, place: usize) {
+fn no_edges(line: usize, place: usize) {
     print::word(b"    ");
     refused::tell(line, place);
 }
 
-fn show_edge(answer: NextEdge) {
-    match answer {
-        NextEdge::Edge {
-            target: t,
-            label: l,
-            expected: _,
-        } => edge(t, l),
-        NextEdge::End => end(),
-        NextEdge::Index(i) => no_edge(refused::INDEX, i),
-        NextEdge::Columns(o) => no_edge(refused::COLUMNS, o),
+fn list(own_targets: &[u32], own_labels: &[u32], count: usize) {
+    let mut k = 0;
+    while k < count {
+        if own_targets.len() <= k {
+            return;
+        }
+        if own_labels.len() <= k {
+            return;
+        }
+        edge(own_targets[k], own_labels[k]);
+        k += 1;
     }
 }
 
-// What an element's index is at least behind an edge.
-fn behind(edge: NextEdge) -> u32 {
-    match edge {
-        NextEdge::Edge {
-            target: _,
-            label: _,
-            expected: x,
-        } => x,
-        NextEdge::End => 0,
-        NextEdge::Index(_) => 0,
-        NextEdge::Columns(_) => 0,
-    }
-}
-
-// Three turns of the reader of an object's edges.
+// All edges of an object, in these columns.
 fn edges(
     question: &[u8],
     object: usize,
@@ -224,44 +207,29 @@ fn edges(
     escape_at: &[u64],
     escape_label: &[u32],
     codes: &[u16],
+    own_targets: &mut [u32],
+    own_labels: &mut [u32],
 ) {
     print::word(question);
-    let at = ask_span::span(bases, short, long_at, long_value, codes, targets, object);
-    let first = ask_edges::edge_of(
-        targets,
+    match ask_edges::object_edges(
+        bases,
+        short,
+        long_at,
+        long_value,
         codes,
+        targets,
         fields,
         escape_at,
         escape_label,
-        at,
         object,
-        0,
-        0,
-    );
-    show_edge(first);
-    let second = ask_edges::edge_of(
-        targets,
-        codes,
-        fields,
-        escape_at,
-        escape_label,
-        at,
-        object,
-        1,
-        behind(first),
-    );
-    show_edge(second);
-    show_edge(ask_edges::edge_of(
-        targets,
-        codes,
-        fields,
-        escape_at,
-        escape_label,
-        at,
-        object,
-        2,
-        behind(second),
-    ));
+        own_targets,
+        own_labels,
+    ) {
+        ObjectEdges::Edges(n) => list(own_targets, own_labels, n),
+        ObjectEdges::Room(b) => no_edges(refused::ROOM, b),
+        ObjectEdges::Index(i) => no_edges(refused::INDEX, i),
+        ObjectEdges::Columns(o) => no_edges(refused::COLUMNS, o),
+    }
 }
 
 fn all_fields(
@@ -507,7 +475,9 @@ fn all_edges(
     escape_label: &[u32],
     codes: &[u16],
 ) {
-    print::word(b"\nedges in order, through the reader\n");
+    let mut own_targets: [u32; 3] = [9; 3];
+    let mut own_labels: [u32; 3] = [9; 3];
+    print::word(b"\nall edges of an object at once, in room for three\n");
     edges(
         b"  of object 3:\n",
         3,
@@ -520,6 +490,8 @@ fn all_edges(
         escape_at,
         escape_label,
         codes,
+        &mut own_targets,
+        &mut own_labels,
     );
     edges(
         b"  of object 2:\n",
@@ -533,6 +505,8 @@ fn all_edges(
         escape_at,
         escape_label,
         codes,
+        &mut own_targets,
+        &mut own_labels,
     );
     edges(
         b"  of object 4:\n",
@@ -546,6 +520,24 @@ fn all_edges(
         escape_at,
         escape_label,
         codes,
+        &mut own_targets,
+        &mut own_labels,
+    );
+    let mut one: [u32; 1] = [9; 1];
+    edges(
+        b"  of object 3, with room for one label:\n",
+        3,
+        targets,
+        bases,
+        short,
+        long_at,
+        long_value,
+        fields,
+        escape_at,
+        escape_label,
+        codes,
+        &mut own_targets,
+        &mut one,
     );
 }
 

