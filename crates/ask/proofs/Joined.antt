@@ -1,13 +1,16 @@
 -- THE QUESTIONS JOINED TO THE BUILDS. Of what an accepted build left, and of what an accepted `from_parts` left, each question's answer over the used parts is the
 -- same question on the plain edges; and so is each reply in one number that is not 0. No premise but acceptance. Assumes nothing.
-use Prim.Native.Nat.{ℕ, suc, _+_, _*_}
+use Prim.Native.Nat.{ℕ, suc, _+_, _-_, _*_, _≤_, _<_}
+use native.Mathlib.Omega.{arith}
 use mathlib.Core.Path.{_≡_, refl, sym, ap, _∙_}
 use mathlib.Core.Bool.{Bool, true, false, cond, true≢false}
-use mathlib.Core.List.{List, [], _∷_}
+use mathlib.Core.List.{List, [], _∷_, map}
 use lib.Dec.{eqb, leb, ltb}
 use lib.ListN.{length}
+use borrow.Author.Tests.{lt-ltb}
 use Rattle.columns.specs.Lists.{_!_, sort, allOf}
 use Rattle.columns.specs.Columns.{accepts}
+use Rattle.columns.proofs.Sums.{part-at}
 use Rattle.columns.proofs.Tests.{each-of}
 use Rattle.rules.specs.Input.{Input, Schema, objectCount}
 use Rattle.rules.specs.Edges.{Parts, Edge, edgesOf, weakTargets, offset, graph}
@@ -15,22 +18,47 @@ use Rattle.rules.specs.Needs.{Lent, Rooms, objectsOf}
 use Rattle.rules.specs.Verdict.{buildSays}
 use Rattle.rules.specs.Parts.{partsSays}
 use Rattle.rules.specs.Built.{BuildLeft, buildLeft, usedColumns, PartsLeft, partsLeft, usedParts}
-use Rattle.rules.specs.Questions.{Columns, columnsOf, edgesAt, weakIn}
+use Rattle.rules.specs.Questions.{Columns, columnsOf, edgesAt, weakIn, plainly}
 use Rattle.rules.proofs.Acceptance.{Passed, build-passed}
 use Rattle.rules.proofs.Used.{used-columns}
 use Rattle.rules.proofs.Handed.{parts-passed, parts-few, used-parts}
-use Rattle.ask_span.specs.Graph.{strong}
+use Rattle.ask_span.specs.Reading.{countOf, spanPart}
+use Rattle.ask_span.specs.Graph.{spanIn, strong}
 use Rattle.ask_span.proofs.Built.{span-built, count-built, targets-built, weak-built, span-kept, count-kept, targets-kept, weak-kept}
 use Rattle.ask_span.proofs.WeakRows.{weak-targets-built, weak-targets-kept}
 use Rattle.ask_label.proofs.Built.{coarse-built, exact-built, label-built, coarse-kept, exact-kept, label-kept}
 use Rattle.ask_field.proofs.Built.{field-built, referent-built, field-kept, referent-kept}
+use Rattle.ask_edges.specs.declared.Step.the-variants as Step
+use Rattle.ask_edges.proofs.InOrder.{targets-are, codes-are, edge-in-order, end-in-order}
 use Rattle.ask_edges.proofs.Built.{edges-built, edges-kept}
 use Rattle.ask_short.proofs.Whole.{span-whole, label-called}
 use Rattle.ask_short.proofs.Built.{label-met}
 use Rattle.ask_short_field.proofs.Whole.{field-whole, referent-whole}
 use Rattle.ask_short_edges.proofs.Whole.{edges-whole}
 use Rattle.answer_replies.specs.Reply.{spanNumber, replyOf}
-use Rattle.ask.specs.Answers.{Answers, Replied}
+use Rattle.ask.specs.Answers.{InOrder, Answers, Replied}
+
+-- The reader follows from the span, the number of edges and their targets.
+module _ (c : Columns) (n o start end : ℕ) (es : List Edge) (said : spanIn c o ≡ plainly n o (0 ∷ start ∷ end ∷ []))
+    (counted : countOf (spanIn c o) ≡ plainly n o (0 ∷ length es ∷ [])) (held : o < n → spanPart (spanIn c o) (c .targets) ≡ map (λ (e : Edge). e .target) es) (m : o < n) where
+  at : spanIn c o ≡ 0 ∷ start ∷ end ∷ []
+  at = rw (lt-ltb o n m) at said
+
+  many : end - start ≡ length es
+  unfolding countOf accepts
+  many = ap (λ (xs : List ℕ). xs ! 1) (rw (at, lt-ltb o n m) at counted)
+
+  target-at : (k : ℕ) → k < end - start → c .targets ! (start + k) ≡ map (λ (e : Edge). e .target) es ! k
+  target-at k l = sym (part-at (c .targets) start end k l) ∙ ap (λ (ts : List ℕ). ts ! k) (sym (targets-are c o at) ∙ held m)
+
+  in-order : InOrder c o start end es
+  in-order = record {
+    codes-of = codes-are c o at;
+    edge = λ k l.
+        let within : k < end - start = omega (arith, many) in
+        edge-in-order c o at k within ∙ ap (λ (t : ℕ). Step.Edge t (c .labels .codes ! (start + k))) (target-at k within);
+    ends = λ k l. end-in-order c o at k (omega (arith, many));
+  }
 
 -- Columns as an accepted build codes them, and as an accepted `from_parts` does.
 coded-built : (x : Input) → Passed x → (o : ℕ)
@@ -48,6 +76,7 @@ coded-built x h o = record {
   field = field-built x h o;
   referent = referent-built x h o;
   object-edges = edges-built x h o;
+  reader = in-order _ (objectCount x) o (offset x o) (offset x (suc o)) (edgesOf x o) (span-built x h o) (count-built x h o) (targets-built x h o);
 }
 
 coded-kept : (s : Schema) (p : Parts) (l : Lent) → accepts (partsSays s p l) ≡ true → (o : ℕ)
@@ -68,6 +97,8 @@ coded-kept s p l ok o =
       field = field-kept s p (h .parts) few o;
       referent = referent-kept s p (h .parts) few o (h .even);
       object-edges = edges-kept s p (h .parts) few o;
+      reader = in-order _ (objectsOf p) o (p .offsets ! o) (p .offsets ! suc o) (edgesAt p o)
+          (span-kept s p (h .parts) few o) (count-kept s p (h .parts) few o) (targets-kept s p (h .parts) few o);
     }
 
 -- THE BUILD: b is what its contract says that the call left.

@@ -1,4 +1,5 @@
-// The questions, by one name each. Over what an accepted build or `from_parts` left, each is the same question on the plain edges: proofs/Joined.antt.
+// The questions, by one name each. Over what an accepted build or `from_parts` left, each is the same question on the plain edges, and an object's parts have
+// its edges in order: proofs/Joined.antt.
 pub use ask_edges::object_edges;
 pub use ask_field::field;
 pub use ask_field::referent;

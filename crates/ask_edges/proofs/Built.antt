@@ -9,7 +9,7 @@ use Rattle.columns.specs.Lists.{_!_, anyOf}
 use Rattle.rules.specs.Input.{Input, Schema, objectCount}
 use Rattle.rules.specs.Edges.{Parts, Edge, edgesOf, graph}
 use Rattle.rules.specs.Needs.{objectsOf}
-use Rattle.rules.specs.Questions.{columnsOf, edgesAt, asked, readsBack, edgesRead, intoSays, EdgesLeft, edgesInto, plainEdges, objectEdges}
+use Rattle.rules.specs.Questions.{Columns, columnsOf, edgesAt, asked, readsBack, edgesRead, intoSays, EdgesLeft, edgesInto, plainEdges, objectEdges}
 use Rattle.rules.proofs.Acceptance.{Passed}
 use Rattle.rules.proofs.Asked.{edges-laid}
 use Rattle.rules.proofs.Finished.{edges-asked}
@@ -28,18 +28,18 @@ never-12-edges n o es a b = go (ltb o n) (anyOf (ltb a (length es) ∷ ltb b (le
     go true false = refl
     go false t = refl
 
+-- Where the rules say the plain edges, the call leaves them.
+found-plain : (c : Columns) (o n : ℕ) (es : List Edge) (a b : ℕ) → objectEdges c o a b ≡ plainEdges n o es a b → edgesFound c o a b ≡ plainEdges n o es a b
+found-plain c o n es a b is = edges-left c o a b (ap (λ (x : EdgesLeft). eqb (x .says ! 0) 12) is ∙ never-12-edges n o es a b) ∙ is
+
 -- Columns that meet PARTS, as `from_parts` codes them: the edges are those of the plain columns.
 module _ (s : Schema) (p : Parts) (law : Meets (s .names) p) (few : length (p .labels) < 2 ^ 64) (o a b : ℕ) where
   pub edges-kept : edgesFound (strong (columnsOf s p)) o a b ≡ plainEdges (objectsOf p) o (edgesAt p o) a b
   unfolding objectEdges asked readsBack edgesRead
-  edges-kept =
-      let is : objectEdges (strong (columnsOf s p)) o a b ≡ plainEdges (objectsOf p) o (edgesAt p o) a b = edges-laid s p law few o a b in
-      edges-left (strong (columnsOf s p)) o a b (ap (λ (x : EdgesLeft). eqb (x .says ! 0) 12) is ∙ never-12-edges (objectsOf p) o (edgesAt p o) a b) ∙ is
+  edges-kept = found-plain (strong (columnsOf s p)) o (objectsOf p) (edgesAt p o) a b (edges-laid s p law few o a b)
 
 -- The columns of an accepted build: the object's edges, as the input gives them.
 module _ (x : Input) (h : Passed x) (o a b : ℕ) where
   pub edges-built : edgesFound (strong (columnsOf (x .schema) (graph x))) o a b ≡ plainEdges (objectCount x) o (edgesOf x o) a b
   unfolding objectEdges asked readsBack edgesRead
-  edges-built =
-      let is : objectEdges (strong (columnsOf (x .schema) (graph x))) o a b ≡ plainEdges (objectCount x) o (edgesOf x o) a b = edges-asked x h o a b in
-      edges-left (strong (columnsOf (x .schema) (graph x))) o a b (ap (λ (x : EdgesLeft). eqb (x .says ! 0) 12) is ∙ never-12-edges (objectCount x) o (edgesOf x o) a b) ∙ is
+  edges-built = found-plain (strong (columnsOf (x .schema) (graph x))) o (objectCount x) (edgesOf x o) a b (edges-asked x h o a b)

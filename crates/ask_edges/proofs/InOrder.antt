@@ -1,20 +1,19 @@
 -- The reader: an object's parts hold its edges in order, each with its target and its code, and then the end. Assumes nothing.
-use Prim.Native.Nat.{ℕ, suc, _+_, _-_, _≤_, _<_}
-use mathlib.Core.Path.{_≡_, sym, ap, ap₂, _∙_}
-use mathlib.Core.Bool.{true}
-use mathlib.Core.List.{List, []}
+use Prim.Native.Nat.{ℕ, _+_, _-_, _≤_, _<_}
+use mathlib.Core.Path.{_≡_, sym, ap, _∙_}
+use mathlib.Core.List.{List, [], _∷_}
 use lib.ListN.{length}
 use borrow.Author.Tests.{lt-ltb, le-ltb, lt-leb, le-leb}
 use Rattle.columns.specs.Lists.{_!_, part}
 use Rattle.columns.proofs.Sums.{part-at, part-length}
-use Rattle.rules.specs.Questions.{Columns, readsBack, objectsIn, offsetAt, edgesIn, edgeAt}
+use Rattle.rules.specs.Questions.{Columns}
 use Rattle.labels.specs.Reading.{codeBack}
 use Rattle.ask_span.specs.Reading.{spanPart}
 use Rattle.ask_span.specs.Graph.{spanIn}
-use Rattle.ask_span.proofs.Spans.{span-inside, span-read, part-is}
+use Rattle.ask_span.proofs.Spans.{Inside, span-inside, part-is}
 use Rattle.ask_edges.specs.declared.Step.{Step}
 use Rattle.ask_edges.specs.declared.Step.the-variants as Step
-use Rattle.ask_edges.specs.Read.{stepAt, withLabel, edgeBack}
+use Rattle.ask_edges.specs.Read.{stepAt, standsIn, withLabel, edgeBack}
 
 -- the parts from a up to b
 module _ (ts cs : List ℕ) (a b k : ℕ) (targeted : b ≤ length ts) (coded : b ≤ length cs) where
@@ -26,32 +25,22 @@ module _ (ts cs : List ℕ) (a b k : ℕ) (targeted : b ≤ length ts) (coded : 
   unfolding stepAt
   stands-end l = rw (part-length ts a b targeted, le-ltb k (b - a) l)
 
--- Of an object that reads back.
-module _ (c : Columns) (o : ℕ) (m : o < objectsIn c) (h : readsBack c o ≡ true) where
-  abbrev e : ℕ
-  e = offsetAt c o
+-- Of an object whose span is answered, on any columns.
+module _ (c : Columns) (o : ℕ) {e z : ℕ} (at : spanIn c o ≡ 0 ∷ e ∷ z ∷ []) where
+  inside : Inside (length (c .labels .codes)) (length (c .targets)) e z
+  inside = span-inside (c .offsets) (length (c .labels .codes)) (length (c .targets)) o at
 
-  abbrev z : ℕ
-  z = offsetAt c (suc o)
+  pub targets-are : spanPart (spanIn c o) (c .targets) ≡ part (c .targets) e z
+  targets-are = rw at (part-is (c .targets) e z (inside .ordered) (inside .targeted))
 
-  abbrev stands : ℕ → Step
-  stands k = stepAt (spanPart (spanIn c o) (c .targets)) (spanPart (spanIn c o) (c .labels .codes)) k
+  pub codes-are : spanPart (spanIn c o) (c .labels .codes) ≡ part (c .labels .codes) e z
+  codes-are = rw at (part-is (c .labels .codes) e z (inside .ordered) (inside .coded))
 
-  parts-are : (k : ℕ) → stands k ≡ stepAt (part (c .targets) e z) (part (c .labels .codes) e z) k
-  parts-are k =
-      let i = span-inside (c .offsets) (length (c .labels .codes)) (length (c .targets)) o (span-read c o m h) in
-      rw (span-read c o m h)
-      (ap₂ (λ (t s : List ℕ). stepAt t s k) (part-is (c .targets) e z (i .ordered) (i .targeted)) (part-is (c .labels .codes) e z (i .ordered) (i .coded)))
+  pub edge-in-order : (k : ℕ) → k < z - e → standsIn c o k ≡ Step.Edge (c .targets ! (e + k)) (c .labels .codes ! (e + k))
+  edge-in-order k l = rw (targets-are, codes-are) (stands-edge (c .targets) (c .labels .codes) e z k (inside .targeted) (inside .coded) l)
 
-  pub edge-in-order : (k : ℕ) → k < edgesIn c o → stands k ≡ Step.Edge (edgeAt c o k .target) (c .labels .codes ! (e + k))
-  edge-in-order k l =
-      let i = span-inside (c .offsets) (length (c .labels .codes)) (length (c .targets)) o (span-read c o m h) in
-      parts-are k ∙ stands-edge (c .targets) (c .labels .codes) e z k (i .targeted) (i .coded) l
-
-  pub end-in-order : (k : ℕ) → edgesIn c o ≤ k → stands k ≡ Step.End
-  end-in-order k l =
-      let i = span-inside (c .offsets) (length (c .labels .codes)) (length (c .targets)) o (span-read c o m h) in
-      parts-are k ∙ stands-end (c .targets) (c .labels .codes) e z k (i .targeted) (i .coded) l
+  pub end-in-order : (k : ℕ) → z - e ≤ k → standsIn c o k ≡ Step.End
+  end-in-order k l = rw (targets-are, codes-are) (stands-end (c .targets) (c .labels .codes) e z k (inside .targeted) (inside .coded) l)
 
 -- What stands there, read: its target is no object; its label; the end.
 module _ (objects : ℕ) (f a l : List ℕ) (place n : ℕ) where

@@ -5,7 +5,10 @@ use mathlib.Core.List.{List, [], _∷_}
 use lib.Dec.{ltb, leb}
 use lib.ListN.{length}
 use Rattle.columns.specs.Lists.{_!_}
+use Rattle.rules.specs.Questions.{Columns}
 use Rattle.labels.specs.Reading.{codeBack}
+use Rattle.ask_span.specs.Reading.{spanPart}
+use Rattle.ask_span.specs.Graph.{spanIn}
 use Rattle.ask_edges.specs.declared.Step.{Step}
 use Rattle.ask_edges.specs.declared.Step.the-variants as Step
 use Rattle.ask_edges.specs.declared.ReadEdge.{ReadEdge}
@@ -14,6 +17,10 @@ use Rattle.ask_edges.specs.declared.ReadEdge.the-variants as ReadEdge
 -- What stands at a position of the two parts, where both have it; else the end. That is all that a reader says, whatever state it is made with.
 unfoldable pub stepAt : List ℕ → List ℕ → ℕ → Step
 stepAt ts cs at = cond (ltb at (length ts)) (cond (ltb at (length cs)) (Step.Edge (ts ! at) (cs ! at)) Step.End) Step.End
+
+-- The reader over an object's own parts: those that `targets_of` and `codes_of` give.
+abbrev pub standsIn : Columns → ℕ → ℕ → Step
+standsIn c o k = stepAt (spanPart (spanIn c o) (c .targets)) (spanPart (spanIn c o) (c .labels .codes)) k
 
 -- an edge that is read has its target and its exact label; one that cannot be read has nothing
 abbrev pub readEdgeSays : ReadEdge → List ℕ

@@ -179,7 +179,8 @@ module _ {M : Type 1} (𝓤 : URA M) (H : Heap 𝓤) (A : Atoms 𝓤) (W : Given
 read-meets : {M : Type 1} (𝓤 : URA M) (H : Heap 𝓤) (A : Atoms 𝓤) (W : Given 𝓤 H A) (mem : Memory → SProp 𝓤) (run : Routine → Fun 𝓤) (𝓣 : Tables 𝓤 H)
     → Triple 𝓤 (𝓣 .C #reader·new) (New 𝓤 H A mem run) → Triple 𝓤 (𝓣 .C #reader·next) (Next 𝓤 H A mem run)
     → Meets 𝓤 H A read.signature (WpFn 𝓤 H (𝓣 .C) (𝓣 .Λ) code.function) (read.spec 𝓤 H A mem run)
-read-meets 𝓤 H A W mem run 𝓣 known-new known-next = walk-meets 𝓤 H A read.ended stayed W (goes-none-slice 𝓤 H A W 2 (0 ∷ []) tt (plain (λ _. u32)) yes, (goes-none-slice 𝓤 H A W 2 (1 ∷ []) tt (plain (λ _. u16)) yes, (goes-none 𝓤 H A W 2 (λ _. usize) yes (λ κs x f. refl), tt))) (read.clauses 𝓤 H A mem run) (WpFn 𝓤 H (𝓣 .C) (𝓣 .Λ) code.function) (WpFn-mono 𝓤 H (W .laws) 𝓣 code.function)
+read-meets 𝓤 H A W mem run 𝓣 known-new known-next = walk-meets 𝓤 H A read.ended stayed W (goes-none-slice 𝓤 H A W 2 (0 ∷ []) tt (plain (λ _. u32)) yes, (goes-none-slice 𝓤 H A W 2 (1 ∷ []) tt (plain (λ _. u16)) yes, (goes-none 𝓤 H A W 2 (λ _. usize) yes (λ κs x f. refl), tt)))
+    (read.clauses 𝓤 H A mem run) (WpFn 𝓤 H (𝓣 .C) (𝓣 .Λ) code.function) (WpFn-mono 𝓤 H (W .laws) 𝓣 code.function)
     (read-walks 𝓤 H A W mem run (𝓣 .C) (𝓣 .Λ) (fmOf 𝓤 H (W .laws) 𝓣) known-new known-next)
 
 pub read-spec : {M : Type 1} → stated.statement M
