@@ -101,6 +101,15 @@ fn question(what: &str, asked: &[(u32, u32)], ours: impl Fn(u32, u32) -> u64, th
     line(&format!("{what}, {} objects", asked.len()), &mut our_times, &mut their_times);
 }
 
+/// Edges taken one by one, as a `for` loop takes them.
+fn one_by_one(edges: impl Iterator<Item = (u32, u32)>) -> u64 {
+    let mut sum = 0;
+    for (target, label) in edges {
+        sum += u64::from(target ^ label);
+    }
+    sum
+}
+
 /// Each question of a hundred thousand objects at random: with labels and targets that the object has, where it has any, and with others.
 fn questions(case: &Case, ours: &Graph, theirs: &midden::graph::Graph) {
     let random = &mut Random::new(11);
@@ -126,6 +135,12 @@ fn questions(case: &Case, ours: &Graph, theirs: &midden::graph::Graph) {
         &any,
         |o, _| ours.edges(o).unwrap().iter().map(|(t, l)| u64::from(t ^ l)).sum(),
         |o, _| theirs.edges(o).iter().map(|(t, l)| u64::from(t ^ l)).sum(),
+    );
+    question(
+        "edges with labels, in a for loop",
+        &any,
+        |o, _| one_by_one(ours.edges(o).unwrap().iter()),
+        |o, _| one_by_one(theirs.edges(o).iter()),
     );
     question(
         "targets alone",
