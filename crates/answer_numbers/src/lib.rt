@@ -2,8 +2,10 @@
 // `answer_replies` answers in one number.
 use rules::CoarseLabel;
 use rules::EdgeCount;
+use rules::Entry;
 use rules::ExactLabel;
 use rules::Field;
+use rules::Inverted;
 use rules::LabelOf;
 use rules::ObjectEdges;
 use rules::Referent;
@@ -11,6 +13,7 @@ use rules::Span;
 use rules::WeakReferents;
 ghost use mathlib.Core.Path.{_≡_};
 ghost use Rattle.rules.specs.Types.{spanSays, edgeCountSays, coarseSays, exactSays, labelOfSays, fieldSays, referentSays, weakSays, objectEdgesSays};
+ghost use Rattle.rules.specs.Types.{invertedSays, entrySays};
 ghost use Rattle.answer_numbers.specs.Told.{told};
 
 pub fn span(a: Span) -> [u64; 4]
@@ -104,5 +107,25 @@ pub fn object_edges(a: ObjectEdges) -> [u64; 4]
         ObjectEdges::Room(at) => [2, 9, at as u64, 0],
         ObjectEdges::Index(at) => [2, 11, at as u64, 0],
         ObjectEdges::Columns(at) => [2, 12, at as u64, 0],
+    }
+}
+
+pub fn inverted(a: Inverted) -> [u64; 4]
+    ensures { λ r. ⌜ r ≡ told 4 (invertedSays a) ⌝ }
+{
+    match a {
+        Inverted::Done { entries, long } => [3, 0, entries as u64, long as u64],
+        Inverted::Room(at) => [2, 9, at as u64, 0],
+        Inverted::Columns(at) => [2, 12, at as u64, 0],
+    }
+}
+
+pub fn entry(a: Entry) -> [u64; 4]
+    ensures { λ r. ⌜ r ≡ told 4 (entrySays a) ⌝ }
+{
+    match a {
+        Entry::Edge { source, place } => [3, 0, source as u64, place as u64],
+        Entry::Index(at) => [2, 11, at as u64, 0],
+        Entry::Columns(at) => [2, 12, at as u64, 0],
     }
 }

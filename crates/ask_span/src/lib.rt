@@ -47,6 +47,49 @@ pub fn between(first: Offset, next: Offset, codes: usize, targets: usize, object
     }
 }
 
+// The span of an object, by its two offsets, in two columns of so many codes and targets. Whoever has entries by offsets asks it, too.
+pub fn span_within(
+    bases: &[u64],
+    short: &[u16],
+    long_at: &[u32],
+    long_value: &[u64],
+    codes: usize,
+    targets: usize,
+    object: usize,
+) -> Span
+    ensures { λ r. ⌜ spanSays r ≡ spanOf (offsetColumns entry bases short «long_at» «long_value») codes targets object ⌝ }
+{
+    if short.len() <= object {
+        return Span::Index(object);
+    }
+    if short.len() - object < 2 {
+        return Span::Index(object);
+    }
+    let first = store::offset_at(bases, short, long_at, long_value, object);
+    let next = store::offset_at(bases, short, long_at, long_value, object + 1);
+    between(first, next, codes, targets, object)
+}
+
+// How long that span is.
+pub fn count_within(
+    bases: &[u64],
+    short: &[u16],
+    long_at: &[u32],
+    long_value: &[u64],
+    codes: usize,
+    targets: usize,
+    object: usize,
+) -> EdgeCount
+    ensures { λ r. ⌜ edgeCountSays r ≡ countOf (spanOf (offsetColumns entry bases short «long_at» «long_value») codes targets object) ⌝ }
+{
+    let at = span_within(bases, short, long_at, long_value, codes, targets, object);
+    match at {
+        Span::Edges { start, end } => EdgeCount::Edges(end - start),
+        Span::Index(i) => EdgeCount::Index(i),
+        Span::Columns(o) => EdgeCount::Columns(o),
+    }
+}
+
 // Where the edges of an object sit in the target column.
 pub fn span(
     bases: &[u64],
@@ -59,15 +102,16 @@ pub fn span(
 ) -> Span
     ensures { λ r. ⌜ spanSays r ≡ spanOf (offsetColumns entry bases short «long_at» «long_value») (length (entry «edge_codes»)) (length (entry targets)) object ⌝ }
 {
-    if short.len() <= object {
-        return Span::Index(object);
-    }
-    if short.len() - object < 2 {
-        return Span::Index(object);
-    }
-    let first = store::offset_at(bases, short, long_at, long_value, object);
-    let next = store::offset_at(bases, short, long_at, long_value, object + 1);
-    between(first, next, edge_codes.len(), targets.len(), object)
+    let codes = edge_codes.len();
+    span_within(
+        bases,
+        short,
+        long_at,
+        long_value,
+        codes,
+        targets.len(),
+        object,
+    )
 }
 
 // How many edges an object has.
@@ -82,20 +126,16 @@ pub fn edge_count(
 ) -> EdgeCount
     ensures { λ r. ⌜ edgeCountSays r ≡ countOf (spanOf (offsetColumns entry bases short «long_at» «long_value») (length (entry «edge_codes»)) (length (entry targets)) object) ⌝ }
 {
-    let at = span(
+    let codes = edge_codes.len();
+    count_within(
         bases,
         short,
         long_at,
         long_value,
-        edge_codes,
-        targets,
+        codes,
+        targets.len(),
         object,
-    );
-    match at {
-        Span::Edges { start, end } => EdgeCount::Edges(end - start),
-        Span::Index(i) => EdgeCount::Index(i),
-        Span::Columns(o) => EdgeCount::Columns(o),
-    }
+    )
 }
 
 // The targets of an object, as a part of their column, by the span that `span` gave, which says whether there is such an object. Of a refusal, or of a span that

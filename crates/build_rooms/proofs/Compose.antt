@@ -6,12 +6,12 @@ use mathlib.Core.Path.{_≡_, refl, sym, ap, _∙_}
 use mathlib.Core.Bool.{Bool, true, false, cond, true≢false}
 use mathlib.Core.List.{List, [], _∷_, _++_, append-assoc}
 use lib.Dec.{ltb}
-use lib.ListN.{length, length-append, drop}
+use lib.ListN.{length}
 use Rattle.columns.specs.Lists.{_!_, anyOf}
-use Rattle.columns.specs.Columns.{zeros, over, cleared, accepts, kept, leaves}
+use Rattle.columns.specs.Columns.{zeros, accepts, leaves}
 use Rattle.columns.proofs.Lists.{tab-length}
 use Rattle.columns.proofs.Tests.{append-empty}
-use Rattle.columns.proofs.Written.{cleared-all, written-padded}
+use Rattle.columns.proofs.Written.{cleared-all, settled-column}
 use Rattle.columns.proofs.Answers.{accepting}
 use Rattle.rules.specs.Input.{Input, objectCount}
 use Rattle.rules.specs.Edges.{Parts, graph, offset}
@@ -163,33 +163,6 @@ build-said x r {before} {says} first then = go (accepts before) refl
     go : (b : Bool) → accepts before ≡ b → says ≡ buildSays x r
     go true ok = then ∙ rw ok (sym (build-rest x r (build-accepts x r (ap accepts (sym first) ∙ ok))))
     go false h = then ∙ rw h (first ∙ sym (build-handed x r (ap accepts (sym first) ∙ h)))
-
--- A column settled, from what it held where the answer accepts.
-over-fits : (xs d : List ℕ) → length (over xs d) ≡ length d → length xs ≤ length d
-unfolding over
-over-fits xs d e = omega (arith, length-append xs (drop (length xs) d))
-
-module _ (says xs d₀ : List ℕ) (i : ℕ) {d d′ : List ℕ} (filled : accepts says ≡ true → d ≡ over xs d₀) (told : accepts says ≡ true → says ! i ≡ length xs)
-    (same : length d ≡ length d₀) (e : d′ ≡ cleared (kept i says) d)
-  where
-    column-kept : accepts says ≡ true → d′ ≡ leaves says xs (length d₀)
-    unfolding leaves kept
-    column-kept ok =
-        let is : d′ ≡ cleared (says ! i) d = rw ok at e in
-        rw ok (written-padded xs d₀ (says ! i) (filled ok) is (sym (told ok)) (rw (told ok) (over-fits xs d₀ (ap length (sym (filled ok)) ∙ same))))
-
-    column-zeroed : accepts says ≡ false → d′ ≡ leaves says xs (length d₀)
-    unfolding leaves kept
-    column-zeroed h =
-        let is : d′ ≡ cleared 0 d = rw h at e in
-        rw h (is ∙ cleared-all d ∙ ap zeros same)
-
-    pub settled-column : d′ ≡ leaves says xs (length d₀)
-    settled-column = go (accepts says) refl
-      where
-        go : (b : Bool) → accepts says ≡ b → d′ ≡ leaves says xs (length d₀)
-        go true h = column-kept h
-        go false h = column-zeroed h
 
 -- columns that are equal one by one
 left-same : {s s′ ts ts′ ls ls′ fs fs′ ws ws′ rs rs′ wk wk′ : List ℕ} {d d′ : CodedLeft} {a a′ : List (List ℕ)} → s ≡ s′ → ts ≡ ts′ → ls ≡ ls′ → fs ≡ fs′ → ws ≡ ws′ → rs ≡ rs′ → wk ≡ wk′ → d ≡ d′

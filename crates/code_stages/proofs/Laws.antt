@@ -1,19 +1,19 @@
 -- Answers: which buffer is short, what a stage hands on, and what each stage's answer comes to case by case. Assumes nothing.
-use Prim.Native.Nat.{ℕ, _+_, _-_, _*_, _/_, _≤_, _<_}
+use Prim.Native.Nat.{ℕ, _+_, _-_, _≤_, _<_}
 use native.Mathlib.Omega.{arith}
 use mathlib.Core.Path.{_≡_, refl, sym, ap, _∙_}
 use mathlib.Core.Bool.{Bool, true, false, cond, true≢false}
 use mathlib.Core.List.{List, [], _∷_}
 use lib.Dec.{ltb}
-use lib.ListN.{length, set, getD, take}
+use lib.ListN.{length, set, take}
 use borrow.Author.Tests.{lt-ltb, le-ltb, ltb-false}
 use Rattle.columns.specs.Lists.{_!_, anyOf}
 use Rattle.columns.specs.Columns.{accepts, over, leaves, Begins}
-use Rattle.columns.proofs.Parts.{never-falls}
-use Rattle.columns.proofs.Tests.{no-places, none-of, or-none, some-of}
+use Rattle.columns.proofs.Tests.{none-of, or-none, some-of}
 use Rattle.columns.proofs.Written.{begins-over}
 use Rattle.store.specs.declared.CodedOffsets.{CodedOffsets}
-use Rattle.store.specs.Blocked.{codedSays, codingSays, Coding, isLow, firstLow, blocksOf, longRows}
+use Rattle.store.specs.Blocked.{codedSays, codingSays, Coding, blocksOf, longRows}
+use Rattle.store.proofs.Verdict.{climbs-high}
 use Rattle.rules.specs.declared.Refusal.{Refusal}
 use Rattle.rules.specs.declared.Counts.{Counts}
 use Rattle.rules.specs.declared.Built.{Built}
@@ -84,20 +84,13 @@ on-accepts before rest = go (accepts before) refl
 
 -- The offsets: laid out, none is below its block's base, so that only ROOM can refuse them.
 module _ (vs : List ℕ) (ready : OffsetsReady vs) where
-  climbs-far : (i j : ℕ) → i ≤ j → j < length vs → vs ! i ≤ vs ! j
-  climbs-far i j h l = never-falls vs j (λ k m. ready .climbs k (omega arith)) i h
-
-  no-low : firstLow vs ≡ length vs
-  no-low =
-      ap (λ (ps : List ℕ). getD ps 0 (length vs)) (no-places (isLow vs) (length vs) (λ i l. le-ltb _ _ (climbs-far (i / 256 * 256) i (omega arith) l)))
-
   coding-laid : (nb ns na nv : ℕ)
       → codingSays vs nb ns na nv
       ≡ unlessShort 4 (ltb nb (blocksOf (length vs)) ∷ ltb ns (length vs) ∷ [])
       (unlessShort 5 (ltb na (longRows vs) ∷ ltb nv (longRows vs) ∷ []) (0 ∷ blocksOf (length vs) ∷ length vs ∷ longRows vs ∷ []))
   unfolding codingSays anyOf
   coding-laid nb ns na nv =
-      rw (no-low, le-ltb 67108865 (length vs) (ready .few-offsets), le-ltb (length vs) (length vs) (omega arith))
+      rw (climbs-high vs (λ i l. ready .climbs i l), le-ltb 67108865 (length vs) (ready .few-offsets), le-ltb (length vs) (length vs) (omega arith))
       (pairs (ltb nb (blocksOf (length vs))) (ltb ns (length vs)) (ltb na (longRows vs)) (ltb nv (longRows vs)) _ _ _)
     where
       pairs : (b s a v : Bool) (x y z : List ℕ) → cond b x (cond s x (cond a y (cond v y z))) ≡ cond (anyOf (b ∷ s ∷ [])) x (cond (anyOf (a ∷ v ∷ [])) y z)

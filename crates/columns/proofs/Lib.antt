@@ -4,6 +4,7 @@ pub mod Sums
 pub mod Leading
 pub mod Counts
 pub mod Every
+pub mod Placing
 pub mod Parts
 pub mod Folds
 pub mod Ranks

@@ -9,7 +9,7 @@ use native.Mathlib.Omega.{arith}
 use lib.ListN.{length, set, take, drop, replicate, length-append, length-take, length-drop, length-set, length-replicate, replicate-append-replicate, take-append-drop, drop-of-length-le}
 use lib.Seq.{drop-cons, set-at, append-snoc, drop-length, take-at, length-take-le}
 use Rattle.columns.specs.Lists.{_!_, tab, places}
-use Rattle.columns.specs.Columns.{zeros, over, cleared, padded, accepts, leaves, Begins}
+use Rattle.columns.specs.Columns.{zeros, over, cleared, padded, accepts, leaves, kept, Begins}
 use Rattle.columns.proofs.Lists.{tab-more, places-hit, places-miss}
 
 -- a column that is written from the front: d₀ with xs, of length k, over it
@@ -130,6 +130,33 @@ module _ (says xs : List ℕ) where
   pub used-length : (c : List ℕ) (m : ℕ) → accepts says ≡ true → c ≡ leaves says xs m → length xs ≤ length c
   unfolding padded over
   used-length c m y e = omega (arith, ap length (left c m y e), length-append xs (drop (length xs) (zeros m)))
+
+-- A column settled, from what it held where the answer accepts.
+over-fits : (xs d : List ℕ) → length (over xs d) ≡ length d → length xs ≤ length d
+unfolding over
+over-fits xs d e = omega (arith, length-append xs (drop (length xs) d))
+
+module _ (says xs d₀ : List ℕ) (i : ℕ) {d d′ : List ℕ} (filled : accepts says ≡ true → d ≡ over xs d₀) (told : accepts says ≡ true → says ! i ≡ length xs)
+    (same : length d ≡ length d₀) (e : d′ ≡ cleared (kept i says) d)
+  where
+    column-kept : accepts says ≡ true → d′ ≡ leaves says xs (length d₀)
+    unfolding leaves kept
+    column-kept ok =
+        let is : d′ ≡ cleared (says ! i) d = rw ok at e in
+        rw ok (written-padded xs d₀ (says ! i) (filled ok) is (sym (told ok)) (rw (told ok) (over-fits xs d₀ (ap length (sym (filled ok)) ∙ same))))
+
+    column-zeroed : accepts says ≡ false → d′ ≡ leaves says xs (length d₀)
+    unfolding leaves kept
+    column-zeroed h =
+        let is : d′ ≡ cleared 0 d = rw h at e in
+        rw h (is ∙ cleared-all d ∙ ap zeros same)
+
+    pub settled-column : d′ ≡ leaves says xs (length d₀)
+    settled-column = go (accepts says) refl
+      where
+        go : (b : Bool) → accepts says ≡ b → d′ ≡ leaves says xs (length d₀)
+        go true h = column-kept h
+        go false h = column-zeroed h
 
 -- what was written over the front of a column stands there
 pub over-front : (xs d : List ℕ) (n : ℕ) → length xs ≡ n → take n (over xs d) ≡ xs

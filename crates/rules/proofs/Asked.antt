@@ -1,6 +1,6 @@
 -- Over the coded columns of a graph that meets PARTS every object reads back, and each question is the same question on the plain columns.
 -- Assumes nothing.
-use Prim.Native.Nat.{ℕ, zero, suc, _+_, _-_, _*_, _/_, _^_, _≤_, _<_, min}
+use Prim.Native.Nat.{ℕ, zero, suc, _+_, _-_, _^_, _≤_, _<_, min}
 use native.Mathlib.Omega.{arith}
 use mathlib.Core.Path.{_≡_, refl, sym, ap, ap₂, _∙_}
 use mathlib.Core.Bool.{Bool, true, false, cond, not, false≢true}
@@ -8,14 +8,15 @@ use mathlib.Core.List.{List, [], _∷_, map}
 use lib.Dec.{ltb}
 use lib.ListN.{length, length-map}
 use lib.Seq.{ext-getD}
-use borrow.Author.Tests.{eq-eqb, le-leb, lt-leb, le-ltb, ltb-true}
+use borrow.Author.Tests.{eq-eqb, le-leb, lt-leb, ltb-true}
 use Rattle.columns.specs.Lists.{_!_, allOf, tab, part}
 use Rattle.columns.specs.Columns.{accepts, leaves}
 use Rattle.columns.specs.Ranks.{Rises, rank}
 use Rattle.columns.proofs.Lists.{tab-length, tab-at, places-rise}
 use Rattle.columns.proofs.Sums.{tab-ext, map-tab, part-at, part-length}
-use Rattle.columns.proofs.Tests.{each-of, none-any, no-places, all-fails}
-use Rattle.store.specs.Blocked.{blocked, readBack, isLow, isLong, firstLow, aboveAt}
+use Rattle.columns.proofs.Tests.{each-of, none-any, all-fails}
+use Rattle.store.specs.Blocked.{blocked, readBack, isLong, firstLow, aboveAt}
+use Rattle.store.proofs.Verdict.{climbs-high}
 use Rattle.store.proofs.Theorems.{reads-back}
 use Rattle.rules.specs.Input.{Schema}
 use Rattle.rules.specs.Edges.{Parts, Edge}
@@ -28,7 +29,7 @@ use Rattle.rules.specs.Questions.{weakReads, weakRead, weakIn, plainly, 
 use Rattle.rules.specs.Questions.{edgeCount, exactOf, coarseOf, labelOf, field, weakReferents, referent, intoSays, edgesInto, plainEdges, objectEdges}
 use Rattle.rules.proofs.Meets.{Meets}
 use Rattle.rules.proofs.Weak.{weak-part, pair-climbs}
-use Rattle.rules.proofs.Codes.{offset-mono, offset-within, edge-in, codes-count, read-labels, label-good, fields-few}
+use Rattle.rules.proofs.Codes.{offset-within, edge-in, codes-count, read-labels, label-good, fields-few}
 
 -- a list that rises, as a test
 rises-test : (xs : List ℕ) → Rises xs → rises xs ≡ true
@@ -107,8 +108,7 @@ module _ (s : Schema) (p : Parts) (law : Meets (s .names) p) (few : length (p .l
   offset-back i h = reads-back (p .offsets) i (omega (arith, law .some)) (omega (arith, offset-within (s .names) p law i h)) high
     where
       high : length (p .offsets) ≤ firstLow (p .offsets)
-      high = rw (no-places (isLow (p .offsets)) (length (p .offsets))
-          (λ i l. le-ltb _ _ (offset-mono (s .names) p law (i / 256 * 256) i (omega arith) (omega arith)))) (omega arith)
+      high = rw (climbs-high (p .offsets) (λ i l. law .rises i (omega arith))) (omega arith)
 
   offset-is : (i : ℕ) → i ≤ m → offsetAt c i ≡ p .offsets ! i
   offset-is i h = ap (λ (a : List ℕ). a ! 1) (offset-back i h)

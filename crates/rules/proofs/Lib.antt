@@ -18,3 +18,5 @@ pub mod Used
 pub mod Handed
 pub mod Bounds
 pub mod First
+pub mod Incoming
+pub mod Holders

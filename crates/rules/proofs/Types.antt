@@ -32,8 +32,12 @@ use Rattle.rules.specs.declared.WeakReferents.{WeakReferents}
 use Rattle.rules.specs.declared.WeakReferents.the-variants as WeakReferents
 use Rattle.rules.specs.declared.ObjectEdges.{ObjectEdges}
 use Rattle.rules.specs.declared.ObjectEdges.the-variants as ObjectEdges
+use Rattle.rules.specs.declared.Inverted.{Inverted}
+use Rattle.rules.specs.declared.Inverted.the-variants as Inverted
+use Rattle.rules.specs.declared.Entry.{Entry}
+use Rattle.rules.specs.declared.Entry.the-variants as Entry
 use Rattle.rules.specs.Types.{refusalSays, checkedSays, builtSays, spanSays, edgeCountSays, coarseSays, exactSays, labelOfSays, fieldSays, referentSays}
-use Rattle.rules.specs.Types.{weakSays, objectEdgesSays}
+use Rattle.rules.specs.Types.{weakSays, objectEdgesSays, invertedSays, entrySays}
 use Rattle.rules.specs.Questions.{Promised}
 
 pub refusal-refuses : (r : Refusal) → accepts (refusalSays r) ≡ false
@@ -229,6 +233,30 @@ objectEdges-back (ObjectEdges.Columns o) = refl
 
 pub one-objectEdges : (r r′ : ObjectEdges) → objectEdgesSays r ≡ objectEdgesSays r′ → r ≡ r′
 one-objectEdges = same objectEdgesSays objectEdgesFrom objectEdges-back
+
+invertedFrom : List ℕ → Inverted
+invertedFrom a = cond (eqb (a ! 0) 0) (Inverted.Done (a ! 1) (a ! 2)) (cond (eqb (a ! 0) 9) (Inverted.Room (a ! 1)) (Inverted.Columns (a ! 1)))
+
+inverted-back : (r : Inverted) → invertedFrom (invertedSays r) ≡ r
+unfolding invertedFrom
+inverted-back (Inverted.Done n l) = refl
+inverted-back (Inverted.Room k) = refl
+inverted-back (Inverted.Columns o) = refl
+
+pub one-inverted : (r r′ : Inverted) → invertedSays r ≡ invertedSays r′ → r ≡ r′
+one-inverted = same invertedSays invertedFrom inverted-back
+
+entryFrom : List ℕ → Entry
+entryFrom a = cond (eqb (a ! 0) 0) (Entry.Edge (a ! 1) (a ! 2)) (cond (eqb (a ! 0) 11) (Entry.Index (a ! 1)) (Entry.Columns (a ! 1)))
+
+entry-back : (r : Entry) → entryFrom (entrySays r) ≡ r
+unfolding entryFrom
+entry-back (Entry.Edge s p) = refl
+entry-back (Entry.Index i) = refl
+entry-back (Entry.Columns o) = refl
+
+pub one-entry : (r r′ : Entry) → entrySays r ≡ entrySays r′ → r ≡ r′
+one-entry = same entrySays entryFrom entry-back
 
 -- Where a question's answer is not COLUMNS, what it promises is that answer alone.
 pub one-promise : {o : ℕ} {says says′ answer : List ℕ} → eqb (answer ! 0) 12 ≡ false → Promised o says answer → Promised o says′ answer → says ≡ says′

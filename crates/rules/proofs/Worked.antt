@@ -25,6 +25,8 @@ use Rattle.rules.specs.Parts.{inColumn, badOffsets, badLabel, badLabels,
 use Rattle.rules.specs.Built.{codedLeft, buildLeft}
 use Rattle.rules.specs.Questions.{labelAt, labelIn, fieldIn, columnsOf, edgesRead, rises, labelReads, readsBack, weakRead, weakReads, asked, span}
 use Rattle.rules.specs.Questions.{edgeCount, exactOf, coarseOf, labelOf, field, weakReferents, referent, intoSays, edgesInto, objectEdges}
+use Rattle.rules.specs.Incoming.{edgeTotal, placesTo, sourcesIn, placesIn, inOffset, inOffsets, incomingOf, canRead, unreadable, shortOfIncoming}
+use Rattle.rules.specs.Incoming.{invertSays, invertLeft, usedIncoming}
 use Rattle.rules.specs.Worked.{wrong, table, graphCases, enough, empty}
 
 pub worked : wrong table ≡ []
@@ -36,5 +38,6 @@ unfolding table graphCases enough empty tab places allOf anyOf any over padded a
     needEscapes shortLater shortOfBuild at schemaLengths routeLengths badLengths limits overLimit badSize badLimit badObject badSlot badStatic badClass badFind
     badDumped badCode badEscape badCopied badPart badSpan faults counts buildSays inColumn badOffsets badLabel badLabels badTargets badPair partsFaults
     codedLeft buildLeft labelAt labelIn fieldIn columnsOf edgesRead rises labelReads readsBack weakRead weakReads asked span edgeCount exactOf coarseOf labelOf
-    field weakReferents referent intoSays edgesInto objectEdges trailingZeros
+    field weakReferents referent intoSays edgesInto objectEdges edgeTotal placesTo sourcesIn placesIn inOffset inOffsets incomingOf canRead unreadable
+    shortOfIncoming invertSays invertLeft usedIncoming trailingZeros
 worked = refl

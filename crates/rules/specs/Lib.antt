@@ -10,5 +10,6 @@ pub mod Verdict
 pub mod Parts
 pub mod Questions
 pub mod Built
+pub mod Incoming
 pub mod Worked
 pub mod Tables

@@ -28,6 +28,10 @@ use Rattle.rules.specs.declared.WeakReferents.{WeakReferents}
 use Rattle.rules.specs.declared.WeakReferents.the-variants as WeakReferents
 use Rattle.rules.specs.declared.ObjectEdges.{ObjectEdges}
 use Rattle.rules.specs.declared.ObjectEdges.the-variants as ObjectEdges
+use Rattle.rules.specs.declared.Inverted.{Inverted}
+use Rattle.rules.specs.declared.Inverted.the-variants as Inverted
+use Rattle.rules.specs.declared.Entry.{Entry}
+use Rattle.rules.specs.declared.Entry.the-variants as Entry
 
 -- "`LOADER` is 2,147,483,647 and `ARRAY_ELEMENT` is 2,147,483,648."
 abbrev pub LOADER : ℕ
@@ -119,3 +123,13 @@ objectEdgesSays (ObjectEdges.Edges n) = 0 ∷ n ∷ []
 objectEdgesSays (ObjectEdges.Room k) = 9 ∷ k ∷ []
 objectEdgesSays (ObjectEdges.Index i) = 11 ∷ i ∷ []
 objectEdgesSays (ObjectEdges.Columns o) = 12 ∷ o ∷ []
+
+abbrev pub invertedSays : Inverted → List ℕ
+invertedSays (Inverted.Done n l) = 0 ∷ n ∷ l ∷ []
+invertedSays (Inverted.Room k) = 9 ∷ k ∷ []
+invertedSays (Inverted.Columns o) = 12 ∷ o ∷ []
+
+abbrev pub entrySays : Entry → List ℕ
+entrySays (Entry.Edge s p) = 0 ∷ s ∷ p ∷ []
+entrySays (Entry.Index i) = 11 ∷ i ∷ []
+entrySays (Entry.Columns o) = 12 ∷ o ∷ []

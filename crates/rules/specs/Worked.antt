@@ -22,6 +22,7 @@ use Rattle.rules.specs.Verdict.{buildSays}
 use Rattle.rules.specs.Parts.{partsFaults}
 use Rattle.rules.specs.Built.{buildLeft}
 use Rattle.rules.specs.Questions.{Columns, columnsOf, readsBack, span, edgeCount, exactOf, coarseOf, labelOf, field, referent, weakReferents, EdgesLeft, objectEdges}
+use Rattle.rules.specs.Incoming.{Incoming, incomingOf, inOffsets, InRooms, InLeft, invertSays, invertLeft, usedIncoming}
 
 -- A check: its case, what is computed and what the document says.
 pub record Check : Type 0 where
@@ -105,6 +106,16 @@ columns x = columnsOf (x .schema) (graph x)
 abbrev leftBy : EdgesLeft → List ℕ
 leftBy e = e .says ++ e .targets ++ e .labels
 
+-- the incoming side, and all that inverting leaves; lent e entries, o offsets and l long rows
+abbrev sides : Incoming → List ℕ
+sides i = i .sources ++ i .places
+
+abbrev invertedBy : InLeft → List ℕ
+invertedBy l = l .says ++ l .sources ++ l .places ++ l .bases ++ l .short ++ l .longAt ++ l .working
+
+abbrev lentIn : ℕ → ℕ → ℕ → InRooms
+lentIn e o l = record { sources = e; places = e; bases = 1; short = o; longAt = l; longValue = l; working = o }
+
 -- just the room that a build needs
 unfoldable pub enough : Input → Rooms
 enough x =
@@ -145,6 +156,7 @@ graphCases route =
     let g = graph x in
     let c = columns x in
     let y = graph (dump route keepWeak) in
+    let d = columns (dump route keepWeak) in
     case "a" (g .offsets) (0 ∷ 1 ∷ 1 ∷ 2 ∷ 4 ∷ [])
     ++ case "b" (g .targets) (1 ∷ 0 ∷ 0 ∷ 2 ∷ [])
     ++ case "c" (c .labels .codes) (0 ∷ 0x8001 ∷ 2 ∷ 3 ∷ [])
@@ -166,6 +178,15 @@ graphCases route =
     ++ case "object's edges" (leftBy (objectEdges c 3 3 2)) (0 ∷ 2 ∷ 0 ∷ 2 ∷ 0 ∷ 2 ∷ LOADER ∷ [])
     ++ case "object's edges, no room" (leftBy (objectEdges c 3 2 1) ++ leftBy (objectEdges c 4 1 1)) (9 ∷ 23 ∷ 0 ∷ 0 ∷ 0 ∷ 11 ∷ 4 ∷ 0 ∷ 0 ∷ [])
     ++ case "reads back" (tab (λ o. one (readsBack c o)) 4) (1 ∷ 1 ∷ 1 ∷ 1 ∷ [])
+    ++ case "M-103, incoming" (sides (incomingOf c) ++ inOffsets c) (2 ∷ 3 ∷ 0 ∷ 3 ∷ 1 ∷ 2 ∷ 0 ∷ 3 ∷ 0 ∷ 2 ∷ 3 ∷ 4 ∷ 4 ∷ [])
+    ++ case "M-103, keep weak" (sides (incomingOf d) ++ inOffsets d) (1 ∷ 2 ∷ 3 ∷ 0 ∷ 3 ∷ 1 ∷ 2 ∷ 3 ∷ 0 ∷ 4 ∷ 0 ∷ 3 ∷ 4 ∷ 5 ∷ 5 ∷ [])
+    ++ case "M-103, left" (invertedBy (invertLeft c (lentIn 5 6 1)))
+    (0 ∷ 4 ∷ 0 ∷ 2 ∷ 3 ∷ 0 ∷ 3 ∷ 0 ∷ 1 ∷ 2 ∷ 0 ∷ 3 ∷ 0 ∷ 0 ∷ 0 ∷ 2 ∷ 3 ∷ 4 ∷ 4 ∷ 0 ∷ 0 ∷ 0 ∷ 0 ∷ 0 ∷ 0 ∷ 0 ∷ 0 ∷ [])
+    ++ case "M-103, used" (sides (usedIncoming 4 (invertLeft c (lentIn 5 6 1))) ++ usedIncoming 4 (invertLeft c (lentIn 5 6 1)) .offsets .short)
+    (2 ∷ 3 ∷ 0 ∷ 3 ∷ 1 ∷ 2 ∷ 0 ∷ 3 ∷ 0 ∷ 2 ∷ 3 ∷ 4 ∷ 4 ∷ [])
+    ++ case "M-103, room" (invertSays c (lentIn 4 5 0) ++ invertedBy (invertLeft c (lentIn 3 4 0)) ++ invertSays c (lentIn 4 4 0))
+    (0 ∷ 4 ∷ 0 ∷ 9 ∷ 10 ∷ 0 ∷ 0 ∷ 0 ∷ 0 ∷ 0 ∷ 0 ∷ 0 ∷ 0 ∷ 0 ∷ 0 ∷ 0 ∷ 0 ∷ 0 ∷ 0 ∷ 0 ∷ 9 ∷ 11 ∷ [])
+    ++ case "M-103, columns" (invertSays (record { offsets = c .offsets; targets = 1 ∷ 0 ∷ 4 ∷ 2 ∷ []; labels = c .labels; weakFrom = []; weakTo = [] }) (lentIn 0 0 0)) (12 ∷ 3 ∷ [])
     ++ case "accepted" (buildSays x (enough x)) (0 ∷ 4 ∷ 1 ∷ 2 ∷ 0 ∷ 4 ∷ 0 ∷ 1 ∷ [])
     ++ case "no room" (buildSays x noRoom ++ buildLeft x noRoom .targets ++ flat (λ r. r) (buildLeft x noRoom .account))
     (9 ∷ 2 ∷ 0 ∷ 0 ∷ 0 ∷ 0 ∷ 0 ∷ 0 ∷ 0 ∷ 0 ∷ 0 ∷ 0 ∷ 0 ∷ 0 ∷ 0 ∷ 0 ∷ 0 ∷ 0 ∷ 0 ∷ 0 ∷ 0 ∷ [])

@@ -182,6 +182,20 @@ pub enum ObjectEdges {
     Columns(usize),
 }
 
+// What inverting answers: how many entries and long rows there are.
+pub enum Inverted {
+    Done { entries: usize, long: usize },
+    Room(usize),
+    Columns(usize),
+}
+
+// An entry of an object: the object that refers to it, and the place of the edge in the target column.
+pub enum Entry {
+    Edge { source: u32, place: u32 },
+    Index(usize),
+    Columns(usize),
+}
+
 pub fn accepted(b: Built) -> bool
     ensures { λ r. ⌜ r ≡ accepts (builtSays b) ⌝ }
 {

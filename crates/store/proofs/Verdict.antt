@@ -2,16 +2,27 @@
 use mathlib.Core.Path.{_≡_, refl, sym, ap, _∙_}
 use mathlib.Core.Bool.{Bool, true, false, cond, true≢false}
 use mathlib.Core.List.{List, [], _∷_}
-use Prim.Native.Nat.{ℕ}
+use Prim.Native.Nat.{ℕ, _*_, _/_, _≤_, _<_}
+use native.Mathlib.Omega.{arith}
 use borrow.Author.Tests.{le-ltb, ltb-false}
 use lib.Dec.{ltb}
-use lib.ListN.{length}
+use lib.ListN.{length, getD}
 use Rattle.columns.specs.Lists.{_!_}
 use Rattle.columns.specs.Columns.{accepts}
+use Rattle.columns.specs.Ranks.{Climbs}
+use Rattle.columns.proofs.Parts.{never-falls}
+use Rattle.columns.proofs.Tests.{no-places}
 use Rattle.columns.proofs.Written.{leaves-zeros, leaves-padded}
 use Rattle.columns.proofs.Answers.{past}
 use Rattle.store.specs.declared.CodedOffsets.{CodedOffsets}
-use Rattle.store.specs.Blocked.{codingSays, Accepted, Filled, Emptied, Coding, codedSays, firstLow, blocksOf, longRows, blocked}
+use Rattle.store.specs.Blocked.{codingSays, Accepted, Filled, Emptied, Coding, codedSays, baseAt, isLow, firstLow, blocksOf, longRows, blocked}
+
+-- No number of a list that climbs is below its block's base.
+pub climbs-high : (vs : List ℕ) → Climbs vs → firstLow vs ≡ length vs
+climbs-high vs climbs = ap (λ (ps : List ℕ). getD ps 0 (length vs)) (no-places (isLow vs) (length vs) (λ i l. le-ltb _ _ (high i l)))
+  where
+    high : (i : ℕ) → i < length vs → baseAt vs i ≤ vs ! i
+    high i l = never-falls vs i (λ k m. climbs k (omega arith)) (i / 256 * 256) (omega arith)
 
 pub accepted : (vs : List ℕ) (nb ns na nv : ℕ) → accepts (codingSays vs nb ns na nv) ≡ true → Accepted vs nb ns na nv
 unfolding codingSays

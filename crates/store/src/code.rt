@@ -189,12 +189,8 @@ pub fn write_all(
     columns::zero_u64(long_value, rows);
 }
 
-pub(crate) fn zero_all(
-    bases: &mut [u64],
-    short: &mut [u16],
-    long_at: &mut [u32],
-    long_value: &mut [u64],
-)
+// All four columns zero, as after a refusal.
+pub fn zero_all(bases: &mut [u64], short: &mut [u16], long_at: &mut [u32], long_value: &mut [u64])
     ensures { λ _. ⌜ Emptied (length (entry bases)) (length (entry short)) (length (entry «long_at»)) (length (entry «long_value»))
         (exit bases) (exit short) (exit «long_at») (exit «long_value») ⌝ }
 {

@@ -10,8 +10,9 @@ use Rattle.slot_rows.specs.declared.SlotRow.{SlotRow}
 use Rattle.slot_rows.specs.declared.Filled.{Filled}
 use Rattle.slot_rows.specs.Rows.{filledSays, left, Filling}
 use Rattle.rules.specs.Questions.{EdgesLeft}
+use Rattle.rules.specs.Incoming.{InLeft}
 use Rattle.ask_edges.specs.Object.{leftEdges}
-use Rattle.yokefathom.specs.Calls.{BuildTold, PartsTold, SlotsTold, EdgesTold}
+use Rattle.yokefathom.specs.Calls.{BuildTold, PartsTold, SlotsTold, EdgesTold, InvertTold}
 
 pub build-told : {left : BuildLeft} {says answer ts ls fs ws rs wk : List ℕ} {coded : CodedLeft} {a : List (List ℕ)} → answer ≡ told 9 says → leftOf says ts ls fs ws rs wk coded a ≡ left → BuildTold left answer ts ls fs ws rs wk coded a
 build-told {left} {says} {answer} {ts} {ls} {fs} {ws} {rs} {wk} {coded} {a} e l =
@@ -32,3 +33,8 @@ edges-told e f = record {
   targets = ap (λ (x : EdgesLeft). x .targets) f;
   labels = ap (λ (x : EdgesLeft). x .labels) f;
 }
+
+pub invert-told : {left : InLeft} {says answer : List ℕ} (of : List ℕ → InLeft) → ((z : List ℕ) → of z .says ≡ z) → answer ≡ told 4 says → of says ≡ left → InvertTold left answer (of (left .says))
+invert-told {left} {says} of is e l =
+    let said : says ≡ left .says = sym (is says) ∙ ap (λ (x : InLeft). x .says) l in
+    record { told-as = e ∙ ap (told 4) said; columns = ap of (sym said) ∙ l }

@@ -9,6 +9,7 @@ use Rattle.rules.specs.declared.LabelOf.{LabelOf}
 use Rattle.rules.specs.Types.{exactSays, labelOfSays}
 use Rattle.rules.specs.Built.{CodedLeft, BuildLeft, PartsLeft, SlotsLeft}
 use Rattle.rules.specs.Questions.{Columns, EdgesLeft}
+use Rattle.rules.specs.Incoming.{InLeft}
 use Rattle.build_rooms.specs.Stages.{leftOf}
 use Rattle.from_parts.specs.Parts.{leftAs}
 use Rattle.ask_label.specs.Labelled.{ExactAt, LabelTo}
@@ -40,6 +41,11 @@ pub record EdgesTold (left : EdgesLeft) (answer t l : List ℕ) : Type 0 where
   pub told-as : answer ≡ told 4 (left .says)
   pub targets : t ≡ left .targets
   pub labels : l ≡ left .labels
+
+-- Inverting, told likewise.
+pub record InvertTold (left : InLeft) (answer : List ℕ) (columns : InLeft) : Type 0 where
+  pub told-as : answer ≡ told 4 (left .says)
+  pub columns : columns ≡ left
 
 -- An exact label, told: an answer that meets the contract of `exact_label`, as numbers; and likewise one of `label_of`.
 pub record ExactTold (c : Columns) (o k : ℕ) (answer : List ℕ) : Type 0 where

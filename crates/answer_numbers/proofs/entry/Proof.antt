@@ -1,0 +1,28 @@
+-- `answer_numbers::entry` meets its contract: case by case. Assumes nothing.
+use mathlib.Core.Path.{sym, ap}
+use mathlib.Core.List.{List}
+use Prim.Native.Nat.{ℕ}
+use Rattle.rules.specs.declared.Entry.{Entry}
+use Rattle.rules.specs.Types.{entrySays}
+use Rattle.columns.specs.Columns.{padded, over}
+use Rattle.answer_numbers.specs.Told.{told}
+use borrow.Author.Needs.{needs}
+use Rattle.answer_numbers.proofs.entry.Statement.{statement}
+use Rattle.answer_numbers.proofs.entry.Tie as tie
+
+abbrev numbers : Entry → List ℕ
+numbers a = told 4 (entrySays a)
+
+pub entry-spec : {M : Type 1} → statement M
+unfolding told padded over
+entry-spec =
+    tie.close
+    (tie.spec
+    (λ c. search needs)
+    (λ c. search needs)
+    (λ c. search needs)
+    (λ c. search needs)
+    (λ c. search needs)
+    (λ c. sym (ap numbers (c .before .a .given .1)))
+    (λ c. sym (ap numbers (c .before .a2 .given .1)))
+    (λ c. sym (ap numbers (c .before .a3 .given .1))))

@@ -1,0 +1,53 @@
+-- The stages of inverting that know no entry: what each one answers and leaves. Assumes nothing.
+use Prim.Native.Nat.{ℕ, suc, _+_, _-_}
+use mathlib.Core.Path.{_≡_}
+use mathlib.Core.Bool.{cond}
+use mathlib.Core.List.{List, [], _∷_}
+use lib.Dec.{ltb}
+use lib.ListN.{length, take}
+use Rattle.columns.specs.Lists.{_!_, allOf, anyOf}
+use Rattle.columns.specs.Columns.{zeros, cleared, accepts, leaves, kept}
+use Rattle.store.specs.Blocked.{Blocked, readBack, blocked, blocksOf, codingSays}
+use Rattle.rules.specs.Incoming.{InRooms}
+
+-- How many entries there are, one for each edge: from the first object's offset up to the last one's end. 0 where one of the two cannot be read.
+unfoldable pub betweenOf : List ℕ → List ℕ → ℕ
+betweenOf first last = cond (allOf (accepts first ∷ accepts last ∷ [])) (last ! 1 - first ! 1) 0
+
+unfoldable pub entriesOf : Blocked → ℕ
+entriesOf b = betweenOf (readBack b 0) (readBack b (length (b .short) - 1))
+
+-- the room lent but for the long rows
+abbrev pub lentRooms : ℕ → ℕ → ℕ → ℕ → ℕ → InRooms
+lentRooms sources places bases short working =
+    record { sources = sources; places = places; bases = bases; short = short; longAt = 0; longValue = 0; working = working }
+
+-- What can be said before the entries are laid: COLUMNS, ROOM 10, and ROOM 11 but for the long rows; on acceptance the entries.
+unfoldable pub earlySays : ℕ → ℕ → ℕ → InRooms → List ℕ
+earlySays bad objects entries r =
+    cond (ltb bad objects) (12 ∷ bad ∷ [])
+    (cond (anyOf (ltb (r .sources) entries ∷ ltb (r .places) entries ∷ [])) (9 ∷ 10 ∷ [])
+    (cond (anyOf (ltb (r .bases) (blocksOf (suc objects)) ∷ ltb (r .short) (suc objects) ∷ ltb (r .working) (suc objects) ∷ [])) (9 ∷ 11 ∷ [])
+    (0 ∷ entries ∷ 0 ∷ [])))
+
+-- From the answer of coding the offsets, of so many entries: any refusal of that is ROOM 11. An answer so far that refuses is handed on.
+unfoldable pub codedAs : ℕ → List ℕ → List ℕ
+codedAs entries coding = cond (accepts coding) (0 ∷ entries ∷ coding ! 3 ∷ []) (9 ∷ 11 ∷ [])
+
+unfoldable pub codedAfter : List ℕ → List ℕ → List ℕ
+codedAfter says coding = cond (accepts says) (codedAs (says ! 1) coding) says
+
+-- The offsets coded, from the front of the working column.
+pub record CodedIn (says : List ℕ) (objects : ℕ) (w : List ℕ) (nb ns na nv : ℕ) (says′ b s a v : List ℕ) : Type 0 where
+  pub answer : says′ ≡ codedAfter says (codingSays (take (objects + 1) w) nb ns na nv)
+  pub bases : b ≡ leaves says′ (blocked (take (objects + 1) w) .bases) nb
+  pub short : s ≡ leaves says′ (blocked (take (objects + 1) w) .short) ns
+  pub long-at : a ≡ leaves says′ (blocked (take (objects + 1) w) .longAt) na
+  pub long-value : v ≡ leaves says′ (blocked (take (objects + 1) w) .longValue) nv
+
+-- The end: what the answer does not keep of the entries is cleared, and so is the work space.
+pub record Settled (says says′ s₀ p₀ w₀ s p w : List ℕ) : Type 0 where
+  pub answer : says′ ≡ says
+  pub sources : s ≡ cleared (kept 1 says) s₀
+  pub places : p ≡ cleared (kept 1 says) p₀
+  pub working : w ≡ zeros (length w₀)

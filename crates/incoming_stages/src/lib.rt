@@ -1,0 +1,170 @@
+// The stages of inverting that know no entry: what has no room, the offsets coded, and the end. A stage that is handed a refusal hands it on.
+use rules::Inverted;
+use store::CodedOffsets;
+use store::Offset;
+ghost use mathlib.Core.Path.{_≡_};
+ghost use mathlib.Core.Bool.{true};
+ghost use Prim.Native.Nat.{_+_, _-_, _≤_};
+ghost use lib.ListN.{length};
+ghost use Rattle.columns.specs.Columns.{accepts, kept};
+ghost use Rattle.columns.specs.Loans.{entry, exit};
+ghost use Rattle.store.specs.Blocked.{codedSays, offsetSays};
+ghost use Rattle.rules.specs.Tables.{offsetColumns};
+ghost use Rattle.rules.specs.Types.{invertedSays};
+ghost use Rattle.incoming_stages.specs.Stages.{betweenOf, entriesOf, earlySays, lentRooms, codedAs, CodedIn, Settled};
+
+// How many objects there are: one fewer than short offsets.
+pub fn objects(short: usize) -> usize
+    ensures { λ r. ⌜ r ≡ short - 1 ⌝ }
+{
+    if short == 0 {
+        return 0;
+    }
+    short - 1
+}
+
+// The difference of two offsets, where both are read.
+fn between(first: Offset, last: Offset) -> usize
+    ensures { λ r. ⌜ r ≡ betweenOf (offsetSays first) (offsetSays last) ⌝ }
+{
+    match first {
+        Offset::Value(start) => match last {
+            Offset::Value(end) => {
+                if end < start {
+                    return 0;
+                }
+                (end - start) as usize
+            }
+            Offset::Index(_) => 0,
+            Offset::Columns(_) => 0,
+        },
+        Offset::Index(_) => 0,
+        Offset::Columns(_) => 0,
+    }
+}
+
+// How many entries there are: one for each edge.
+pub fn entries(bases: &[u64], short: &[u16], long_at: &[u32], long_value: &[u64]) -> usize
+    ensures { λ r. ⌜ r ≡ entriesOf (offsetColumns entry bases short «long_at» «long_value») ⌝ }
+{
+    let first = store::offset_at(bases, short, long_at, long_value, 0);
+    let last = store::offset_at(bases, short, long_at, long_value, objects(short.len()));
+    between(first, last)
+}
+
+// COLUMNS, ROOM 10, and ROOM 11 but for the long rows, which are not known yet.
+pub fn early(
+    bad: usize,
+    objects: usize,
+    entries: usize,
+    sources: usize,
+    places: usize,
+    bases: usize,
+    short: usize,
+    working: usize,
+) -> Inverted
+    ensures { λ r. ⌜ invertedSays r ≡ earlySays bad objects entries (lentRooms sources places bases short working) ⌝ }
+{
+    if bad < objects {
+        return Inverted::Columns(bad);
+    }
+    if sources < entries {
+        return Inverted::Room(10);
+    }
+    if places < entries {
+        return Inverted::Room(10);
+    }
+    if bases < objects / 256 + 1 {
+        return Inverted::Room(11);
+    }
+    if short <= objects {
+        return Inverted::Room(11);
+    }
+    if working <= objects {
+        return Inverted::Room(11);
+    }
+    Inverted::Done { entries, long: 0 }
+}
+
+pub fn is_done(answer: Inverted) -> bool
+    ensures { λ r. ⌜ r ≡ accepts (invertedSays answer) ⌝ }
+{
+    match answer {
+        Inverted::Done {
+            entries: _,
+            long: _,
+        } => true,
+        Inverted::Room(_) => false,
+        Inverted::Columns(_) => false,
+    }
+}
+
+fn entries_kept(answer: Inverted) -> usize
+    ensures { λ r. ⌜ r ≡ kept 1 (invertedSays answer) ⌝ }
+{
+    match answer {
+        Inverted::Done { entries, long: _ } => entries,
+        Inverted::Room(_) => 0,
+        Inverted::Columns(_) => 0,
+    }
+}
+
+// The answer behind the coding of the offsets, of so many entries.
+fn with_long(entries: usize, coded: CodedOffsets) -> Inverted
+    ensures { λ r. ⌜ invertedSays r ≡ codedAs entries (codedSays coded) ⌝ }
+{
+    match coded {
+        CodedOffsets::Done {
+            bases: _,
+            short: _,
+            long,
+        } => Inverted::Done { entries, long },
+        CodedOffsets::Limit => Inverted::Room(11),
+        CodedOffsets::Parts(_) => Inverted::Room(11),
+        CodedOffsets::Room(_) => Inverted::Room(11),
+    }
+}
+
+// The offsets of the entries, coded from the front of the working column; after a refusal their columns are zero.
+pub fn code(
+    answer: Inverted,
+    objects: usize,
+    working: &[u64],
+    in_bases: &mut [u64],
+    in_short: &mut [u16],
+    in_long_at: &mut [u32],
+    in_long_value: &mut [u64],
+) -> Inverted
+    requires { ⌜ (accepts (invertedSays answer) ≡ true → objects + 1 ≤ length (now working)) ⌝ }
+    ensures { λ r. ⌜ CodedIn (invertedSays answer) objects (entry working) (length (entry «in_bases»)) (length (entry «in_short»)) (length (entry «in_long_at»))
+        (length (entry «in_long_value»)) (invertedSays r) (exit «in_bases») (exit «in_short») (exit «in_long_at») (exit «in_long_value») ⌝ }
+{
+    if is_done(answer) {
+        let coded = store::code_offsets(
+            &working[..objects + 1],
+            in_bases,
+            in_short,
+            in_long_at,
+            in_long_value,
+        );
+        return with_long(entries_kept(answer), coded);
+    }
+    store::code::zero_all(in_bases, in_short, in_long_at, in_long_value);
+    answer
+}
+
+// Clears the ends behind the entries that the answer keeps, which is all after a refusal, and the work space.
+pub fn settle(
+    answer: Inverted,
+    sources: &mut [u32],
+    places: &mut [u32],
+    working: &mut [u64],
+) -> Inverted
+    ensures { λ r. ⌜ Settled (invertedSays answer) (invertedSays r) (entry sources) (entry places) (entry working) (exit sources) (exit places) (exit working) ⌝ }
+{
+    let end = entries_kept(answer);
+    columns::zero_u32(sources, end);
+    columns::zero_u32(places, end);
+    columns::zero_u64(working, 0);
+    answer
+}
