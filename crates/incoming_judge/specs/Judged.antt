@@ -3,6 +3,7 @@ use Prim.Native.Nat.{ℕ, _-_, _≤_}
 use mathlib.Core.Path.{_≡_}
 use mathlib.Core.Bool.{Bool, true, not}
 use mathlib.Core.List.{List, [], _∷_}
+use lib.Dec.{leb}
 use lib.ListN.{length}
 use Rattle.columns.specs.Lists.{any, allOf}
 use Rattle.rules.specs.Labels.{Coded}
@@ -23,6 +24,7 @@ pub record Counted (c : Columns) (all-narrow : Bool) (a b : ℕ) : Type 0 where
   pub start : a ≡ offsetAt c 0
   pub end : b ≡ offsetAt c (objectsIn c)
 
--- No label is in doubt: the spans are narrow, the lists rise, and the codes from one place up to another ask for no row.
-unfoldable pub noDoubt : Bool → List ℕ → List ℕ → Coded → ℕ → ℕ → Bool
-noDoubt narrow longAt longValue d from to = allOf (narrow ∷ listsRise longAt longValue (d .escapeAt) (d .escapeLabel) ∷ codesPlain d from to ∷ [])
+-- No edge is in doubt: counting stopped at the end, the spans are narrow, the lists rise, and the codes from one place up to another ask for no row.
+unfoldable pub noDoubt : Bool → List ℕ → List ℕ → Coded → ℕ → ℕ → ℕ → Bool
+noDoubt narrow longAt longValue d from to stop =
+    allOf (leb to stop ∷ narrow ∷ listsRise longAt longValue (d .escapeAt) (d .escapeLabel) ∷ codesPlain d from to ∷ [])

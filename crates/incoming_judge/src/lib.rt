@@ -8,7 +8,7 @@ ghost use Rattle.labels.specs.Reading.{codedOf};
 ghost use Rattle.ask_span.specs.Graph.{edgeColumns};
 ghost use Rattle.incoming_judge.specs.Judged.{Judged, Counted, noDoubt};
 
-// The quick tests leave no doubt that the labels of all edges from `start` up to `end` read.
+// The targets from `start` up to `end` are objects, since counting stopped at the end, and the quick tests leave no doubt that the labels read.
 fn no_doubt(
     long_at: &[u32],
     long_value: &[u64],
@@ -19,11 +19,15 @@ fn no_doubt(
     narrow: bool,
     start: usize,
     end: usize,
+    stop: usize,
 ) -> bool
     requires { ⌜ (start ≤ end) × (end ≤ length (now «edge_codes»)) ⌝ }
     ensures { λ r. ⌜ r ≡
-        noDoubt narrow (entry «long_at») (entry «long_value») (codedOf (entry «edge_codes») (entry fields) (entry «escape_at») (entry «escape_label»)) start end ⌝ }
+        noDoubt narrow (entry «long_at») (entry «long_value») (codedOf (entry «edge_codes») (entry fields) (entry «escape_at») (entry «escape_label»)) start end stop ⌝ }
 {
+    if stop < end {
+        return false;
+    }
     if !narrow {
         return false;
     }
@@ -55,7 +59,7 @@ fn count(
 {
     let objects = short.len() - 1;
     let stop = inverse::tally(targets, start, end, objects, working);
-    let plain = no_doubt(
+    if no_doubt(
         long_at,
         long_value,
         edge_codes,
@@ -65,11 +69,9 @@ fn count(
         narrow,
         start,
         end,
-    );
-    if end <= stop {
-        if plain {
-            return objects;
-        }
+        stop,
+    ) {
+        return objects;
     }
     incoming_read::first_unread(
         bases,

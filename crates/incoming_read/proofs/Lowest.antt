@@ -1,21 +1,20 @@
 -- The lowest object that cannot be read back: it is the first where a list does not rise, and none exactly where each object can be read.
 -- Assumes nothing.
-use Prim.Native.Nat.{ℕ, _+_, _-_, _<_}
+use Prim.Native.Nat.{ℕ, _<_}
 use native.Mathlib.Omega.{arith}
 use mathlib.Core.Path.{_≡_, refl, sym, ap, _∙_}
 use mathlib.Core.Logic.{⊎-elim}
 use mathlib.Core.Bool.{Bool, true, false, not, false≢true}
 use mathlib.Core.List.{List}
 use lib.ListN.{length, getD}
-use borrow.Author.Tests.{leb-false, not-true, not-false}
+use borrow.Author.Tests.{not-false}
 use Rattle.columns.specs.Lists.{any, places}
 use Rattle.columns.proofs.Lists.{lt-or-ge, first-none, first-hit}
-use Rattle.columns.proofs.Tests.{each-of, any-false, none-any, no-places}
-use Rattle.rules.specs.Parts.{noObject}
-use Rattle.rules.specs.Questions.{Columns, objectsIn, offsetAt, edgesIn, readsBack}
-use Rattle.rules.specs.Incoming.{canRead, Spanned}
+use Rattle.columns.proofs.Tests.{each-of, none-any, no-places}
+use Rattle.rules.specs.Questions.{Columns, objectsIn, readsBack}
+use Rattle.rules.specs.Incoming.{canRead}
 use Rattle.incoming_read.specs.Unread.{firstUnread, listsRise, spanReads}
-use Rattle.incoming_read.proofs.Readable.{SpanMeets, meets-span, span-can, risen, all-four}
+use Rattle.incoming_read.proofs.Readable.{meets-span, span-can, risen, all-four}
 
 abbrev pub unread : Columns → ℕ → Bool
 unread c o = not (canRead c o)
@@ -48,18 +47,3 @@ lists-fall c h =
     refuse : (b : Bool) → (b ≡ true → ⊥) → not b ≡ true
     refuse true q = absurd (q refl)
     refuse false q = refl
-
--- What inverting asks of the spans, where each object can be read.
-pub read-spanned : (c : Columns) → ((o : ℕ) → o < objectsIn c → canRead c o ≡ true) → Spanned c
-unfolding canRead readsBack
-read-spanned c h =
-    let m : (o : ℕ) → o < objectsIn c → SpanMeets (c .offsets) (length (c .labels .codes)) (length (c .targets)) o = λ o l. span-can c o (h o l) in
-    record {
-      few = ⊎-elim (λ l. omega (arith, m (objectsIn c - 1) (omega arith) .few)) (λ l. omega arith) (lt-or-ge 0 (objectsIn c));
-      starts = λ o l. m o l .first;
-      stops = λ o l. m o l .next;
-      climbs = λ o l. m o l .ordered;
-      within = λ o l. m o l .targeted;
-      limited = λ o l. m o l .limited;
-      objects = λ o k l n. leb-false _ _ (any-false (λ k. noObject (objectsIn c) (c .targets) (offsetAt c o + k)) (edgesIn c o) k (not-true _ (each-of _ (each-of _ (h o l) 0) 9)) n);
-    }
