@@ -23,6 +23,8 @@ PARTS.insert(PARTS.index("weak_to") + 1, "roots")
 ASK = """
 bases short long_at long_value edge_codes targets fields escape_at escape_label weak_from weak_to
 """.split()
+# The incoming side of a graph, made from those columns and asked in turn.
+INCOMING = "sources places in_bases in_short in_long_at in_long_value working".split()
 # A reader holds target and code parts (document 01).
 READER = "targets codes fields escape_at escape_label".split()
 # What leaf calls name for themselves: any numbers, values to be coded, a part of a column, rows, the answer, and one
@@ -31,13 +33,15 @@ OWN = """
 s d xs values marks from to rows from_offsets from_labels from_weak weak answer own_targets own_labels
 """.split()
 
-PROGRAMS = {"print", "case_text", "case_graph", "replay", "show_cases", "show_worked"}
+PROGRAMS = {"print", "case_text", "case_graph", "case_incoming", "replay", "show_cases", "show_worked"}
 
 
 def order_of(path):
     crate = path.parts[1]
     if path.parts[1:] == ("ask_edges", "src", "lib.rt"):
         return READER
+    if crate == "inverse" or crate.startswith("incoming") or path.name == "incoming.rt":
+        return ASK + INCOMING
     if crate.startswith("ask_") or path.name in ("questions.rt", "read.rt"):
         return ASK
     return PARTS if "parts" in crate or path.name == "parts.rt" else BUILD
@@ -57,7 +61,7 @@ def faults(path):
         if kinds != sorted(kinds):
             yield f"{path}: {name}: a lent column stands before one that is read"
         for other in (s.split(":")[0] for s in slices):
-            if other not in BUILD and other not in OWN:
+            if other not in BUILD + INCOMING + OWN:
                 yield f"{path}: {name}: {other} is no column's name"
 
 

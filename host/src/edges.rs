@@ -34,6 +34,12 @@ impl<'a> Edges<'a> {
         self.span.is_empty()
     }
 
+    /// The place of the first edge in [`Graph::all_targets`].
+    #[inline]
+    pub(crate) fn start(&self) -> usize {
+        self.span.start
+    }
+
     /// Every edge's target, in order: a part of [`Graph::all_targets`].
     #[inline]
     pub fn targets(&self) -> &'a [u32] {

@@ -327,6 +327,64 @@ calls! {
         answer: &mut [u64; 4],
     )
 
+    /// For each object the objects that refer to it and the places of their edges, rising, with blocked offsets; or a refusal, and all columns lent zero.
+    pub extern "C" fn yokefathom_invert(
+        bases: &[u64],
+        short: &[u16],
+        long_at: &[u32],
+        long_value: &[u64],
+        edge_codes: &[u16],
+        targets: &[u32],
+        fields: &[u32],
+        escape_at: &[u64],
+        escape_label: &[u32],
+        sources: &mut [u32],
+        places: &mut [u32],
+        in_bases: &mut [u64],
+        in_short: &mut [u16],
+        in_long_at: &mut [u32],
+        in_long_value: &mut [u64],
+        working: &mut [u64],
+        answer: &mut [u64; 4],
+    )
+
+    /// Where the entries of an object sit among the sources and the places.
+    pub extern "C" fn yokefathom_in_span(
+        object: usize,
+        sources: &[u32],
+        places: &[u32],
+        in_bases: &[u64],
+        in_short: &[u16],
+        in_long_at: &[u32],
+        in_long_value: &[u64],
+        answer: &mut [u64; 4],
+    )
+
+    /// How many edges go to an object.
+    pub extern "C" fn yokefathom_in_degree(
+        object: usize,
+        sources: &[u32],
+        places: &[u32],
+        in_bases: &[u64],
+        in_short: &[u16],
+        in_long_at: &[u32],
+        in_long_value: &[u64],
+        answer: &mut [u64; 4],
+    )
+
+    /// An entry of an object: who refers to it, and the place of that edge in the target column.
+    pub extern "C" fn yokefathom_entry_at(
+        object: usize,
+        k: usize,
+        sources: &[u32],
+        places: &[u32],
+        in_bases: &[u64],
+        in_short: &[u16],
+        in_long_at: &[u32],
+        in_long_value: &[u64],
+        answer: &mut [u64; 4],
+    )
+
     /// Where the edges of an object sit, by the short offsets alone.
     pub extern "C" fn yokefathom_lean_span(
         object: usize,

@@ -33,7 +33,8 @@ pub struct Graph {
     pub account: Account,
 }
 
-fn trimmed<T>(mut column: Vec<T>, used: usize) -> Vec<T> {
+/// A column cut to its used length.
+pub(crate) fn trimmed<T>(mut column: Vec<T>, used: usize) -> Vec<T> {
     column.truncate(used);
     column.shrink_to_fit();
     column

@@ -17,6 +17,20 @@
 //! # Ok(())
 //! # }
 //! ```
+//!
+//! [`Graph::incoming`] answers "who holds this?": [`Incoming::of`] an object are those that refer to it, each with the exact label of its edge,
+//! and an [`in_degree`](Incoming::in_degree) of 0 says that nobody does.
+//!
+//! ```no_run
+//! # use yokefathom::*;
+//! # fn ask(graph: &Graph, object: u32) -> Result<(), Refusal> {
+//! let incoming = graph.incoming()?;
+//! for referrer in incoming.of(object)? {
+//!     println!("object {object} is held as {referrer}");
+//! }
+//! # Ok(())
+//! # }
+//! ```
 #![warn(missing_docs)]
 
 mod account;
@@ -24,6 +38,7 @@ mod answer;
 mod edges;
 mod ffi;
 mod graph;
+mod incoming;
 mod input;
 mod refusal;
 mod room;
@@ -32,13 +47,14 @@ mod whole;
 pub use account::{Account, Outcomes};
 pub use edges::{Edges, Pairs};
 pub use graph::{Columns, Graph};
+pub use incoming::{Incoming, IncomingColumns, Referrer, Referrers};
 pub use input::{Classes, Input, Objects, Parts, ReferencePolicy, References, Schema, SlotColumns, SlotRow, Slots, Statics};
 pub use refusal::Refusal;
 
-/// What the comparison with the original tries beyond a host's needs: builds into columns of its own, and whole questions.
+/// What the comparison with the original tries beyond a host's needs: calls that write into columns of its own, and whole questions.
 #[cfg(feature = "compare")]
 pub mod compare {
-    pub use crate::room::{CodedRoom, Room};
+    pub use crate::room::{CodedRoom, IncomingRoom, Room};
     pub use crate::whole::Whole;
 }
 

@@ -1,5 +1,6 @@
-//! The columns that a build is lent: how long they must be, and the calls that fill them.
+//! The columns that a build is lent, and those of the incoming side: how long they must be, and the calls that fill them.
 use crate::ffi;
+use crate::graph::Columns;
 use crate::input::{Input, Parts, References, Schema};
 
 /// The most places that a build accepts, and the most names: document 01's limits.
@@ -52,6 +53,30 @@ pub struct CodedRoom {
     pub counting: Vec<u64>,
     /// Work space: the fields by their use.
     pub ranking: Vec<u64>,
+}
+
+/// Everything that inverting a graph writes: its incoming side, which [`IncomingColumns`](crate::IncomingColumns) explains, and work space.
+#[derive(Debug, Default)]
+pub struct IncomingRoom {
+    /// Every entry's object that refers.
+    pub sources: Vec<u32>,
+    /// Every entry's place in the target column.
+    pub places: Vec<u32>,
+    /// Every 256th offset of the entries.
+    pub bases: Vec<u64>,
+    /// Every offset above its base.
+    pub short: Vec<u16>,
+    /// The places of the long offsets.
+    pub long_at: Vec<u32>,
+    /// The long offsets.
+    pub long_value: Vec<u64>,
+    /// Work space: an offset for each object, and one more.
+    pub working: Vec<u64>,
+}
+
+/// A block has long offsets only where 65,535 edges and more lie between its ends, and at most 255.
+fn most_long(offsets: usize, edges: usize) -> usize {
+    offsets.min(edges / 65_535 * 255)
 }
 
 fn range(starts: &[u32], ends: &[u32], class: usize) -> std::ops::Range<usize> {
@@ -173,11 +198,10 @@ impl CodedRoom {
         answer
     }
 
-    /// A block has long offsets only where 65,535 edges and more lie between its ends, and at most 255. Labels are escaped where the names are
-    /// more than the codes, or behind 32,767 empty elements.
+    /// Labels are escaped where the names are more than the codes, or behind 32,767 empty elements.
     fn new(offsets: usize, edges: usize, elements: u64, names: usize) -> CodedRoom {
         let names = names.min(NAMES);
-        let long = offsets.min(edges / 65_535 * 255);
+        let long = most_long(offsets, edges);
         let escapes = if names < CODES { edges.min((elements / 32_767).min(PLACES) as usize) } else { edges };
         CodedRoom {
             bases: vec![0; offsets.div_ceil(256)],
@@ -192,5 +216,38 @@ impl CodedRoom {
             counting: vec![0; names + 2],
             ranking: vec![0; names + 2],
         }
+    }
+}
+
+impl IncomingRoom {
+    /// Room for an entry of each edge. There is an offset where there is no object, too.
+    pub fn for_columns(columns: &Columns<'_>) -> IncomingRoom {
+        let (offsets, entries) = (columns.short.len().max(1), columns.targets.len());
+        let long = most_long(offsets, entries);
+        IncomingRoom {
+            sources: vec![0; entries],
+            places: vec![0; entries],
+            bases: vec![0; offsets.div_ceil(256)],
+            short: vec![0; offsets],
+            long_at: vec![0; long],
+            long_value: vec![0; long],
+            working: vec![0; offsets],
+        }
+    }
+
+    /// Inverts a graph into these columns, whatever they hold: the numbers that it says, after how many they are.
+    pub fn invert(&mut self, columns: &Columns<'_>) -> [u64; 4] {
+        let Columns { bases, short, long_at, long_value, codes, targets, fields, escape_at, escape_label, .. } = *columns;
+        let IncomingRoom { sources, places, bases: in_bases, short: in_short, long_at: in_long_at, long_value: in_long_value, working } =
+            self;
+        let mut answer = [0; 4];
+        // An argument line for each table.
+        #[rustfmt::skip]
+        ffi::yokefathom_invert(
+            bases, short, long_at, long_value, codes, targets, fields, escape_at, escape_label,
+            sources, places, in_bases, in_short, in_long_at, in_long_value, working,
+            &mut answer,
+        );
+        answer
     }
 }

@@ -1,23 +1,12 @@
 //! What a user of [`Graph`] tries first: the worked dump by both routes, the questions, and refusals in words.
 mod common;
 
-use common::{COPIED, OBJECTS, SCHEMA, bodies, worked};
+use common::{OBJECTS, SCHEMA, bodies, graphs, worked};
 use yokefathom::{ARRAY_ELEMENT, Account, Classes, Graph, Input, LOADER, Objects, Parts, ReferencePolicy, References, Refusal, Schema};
 
-/// The worked dump by the copied route, and by the raw route with both id sizes.
-fn graphs(change: impl Fn(Input<'_>) -> Result<Graph, Refusal>) -> Vec<Result<Graph, Refusal>> {
-    let raw = [4, 8].map(|id_size| {
-        let (bytes, starts, lengths) = bodies(id_size);
-        change(worked(References::Raw { bytes: &bytes, id_size, starts: &starts, lengths: &lengths }))
-    });
-    [change(worked(COPIED))].into_iter().chain(raw).collect()
-}
-
+/// The graph under the policy that keeps nothing.
 fn built() -> Graph {
-    let mut graphs = graphs(|input| Graph::build(&input)).into_iter().map(|graph| graph.expect("a sound dump"));
-    let graph = graphs.next().expect("the copied route");
-    assert!(graphs.all(|other| other == graph), "the routes differ");
-    graph
+    common::built(ReferencePolicy::default())
 }
 
 #[test]

@@ -1,5 +1,9 @@
-//! Times of both sides in one process, on one thread, by turns: CPU time of the process, least and median of several runs.
+//! Times of both sides in one process, on one thread, by turns: CPU time of the process, least and median of several runs. The original has no
+//! incoming side, so inverting a graph is timed against a plain counting sort of its edges.
+use std::ops::AddAssign;
+
 use yokefathom::Graph;
+use yokefathom::compare::IncomingRoom;
 
 use crate::case::{Case, ROUTES, Route};
 use crate::memory::{self, Side};
@@ -182,6 +186,104 @@ pub fn run(objects: u64) {
             }
         }
     }
+    println!();
+    println!(
+        "| Incoming | edges | ours, least ms | median | ns an edge | plain sort, least ms | median | ns an edge | ratio of least | of medians |"
+    );
+    println!("|---|---|---|---|---|---|---|---|---|---|");
+    for near in [false, true] {
+        incoming(objects, near);
+    }
+}
+
+/// A number that counts entries.
+trait Count: Copy + From<u8> + AddAssign + TryInto<usize> {}
+
+impl Count for u32 {}
+impl Count for u64 {}
+
+/// What a plain counting sort of the edges by their targets fills: where the entries of each object begin, who refers, and the places.
+struct Sorted<T> {
+    begins: Vec<T>,
+    sources: Vec<u32>,
+    places: Vec<u32>,
+}
+
+impl<T: Count> Sorted<T> {
+    /// Columns for so many objects and edges, every page of them written to.
+    fn with_room(objects: usize, edges: usize) -> Sorted<T> {
+        Sorted { begins: vec![T::from(9); objects + 1], sources: vec![9; edges], places: vec![9; edges] }
+    }
+
+    /// Counts the targets, each behind its own place. Sums them up, so that there stands where its entries begin. Lays each edge there and
+    /// raises the number, so that at last it stands where it belongs. Nothing is checked, no label is read, and no offset is coded.
+    fn sort(&mut self, offsets: &[u64], targets: &[u32]) {
+        let (begins, sources, places) = (&mut self.begins[..], &mut self.sources[..], &mut self.places[..]);
+        begins.fill(T::from(0));
+        for &target in targets {
+            begins[target as usize + 1] += T::from(1);
+        }
+        let mut sum = T::from(0);
+        for count in &mut begins[1..] {
+            let begin = sum;
+            sum += *count;
+            *count = begin;
+        }
+        for (object, span) in offsets.windows(2).enumerate() {
+            let span = span[0] as usize..span[1] as usize;
+            for (place, &target) in span.clone().zip(&targets[span]) {
+                let next = &mut begins[target as usize + 1];
+                let Ok(at) = (*next).try_into() else { unreachable!("a place in memory") };
+                *next += T::from(1);
+                sources[at] = object as u32;
+                places[at] = place as u32;
+            }
+        }
+    }
+}
+
+/// Columns for a graph's incoming side, every page of them written to.
+fn spoiled(graph: &Graph) -> IncomingRoom {
+    let mut room = IncomingRoom::for_columns(&graph.columns());
+    for column in [&mut room.sources, &mut room.places, &mut room.long_at] {
+        column.fill(9);
+    }
+    for column in [&mut room.bases, &mut room.long_value, &mut room.working] {
+        column.fill(9);
+    }
+    room.short.fill(9);
+    room
+}
+
+/// Inverting a graph and sorting its edges plainly, by turns, into columns that both were lent before.
+fn inverted<T: Count>(what: &str, graph: &Graph) {
+    let (columns, offsets): (_, Vec<u64>) = (graph.columns(), graph.offsets().collect());
+    let (mut room, mut sorted) = (spoiled(graph), Sorted::<T>::with_room(graph.object_count(), graph.all_targets().len()));
+    let (mut our_times, mut their_times) = (Vec::new(), Vec::new());
+    for _ in 0..RUNS {
+        let answer = timed(&mut our_times, || room.invert(&columns));
+        timed(&mut their_times, || sorted.sort(&offsets, columns.targets));
+        assert_eq!(answer[..3], [3, 0, graph.edge_count()]);
+        assert!(room.sources == sorted.sources && room.places == sorted.places, "both sides have the same entries");
+    }
+    let ((our_least, our_median), (their_least, their_median)) = (ends(&mut our_times), ends(&mut their_times));
+    let edge = |least: f64| least * 1e6 / graph.edge_count() as f64;
+    println!(
+        "| {what} | {} | {our_least:.2} | {our_median:.2} | {:.1} | {their_least:.2} | {their_median:.2} | {:.1} | {:.2} | {:.2} |",
+        graph.edge_count(),
+        edge(our_least),
+        edge(their_least),
+        our_least / their_least,
+        our_median / their_median
+    );
+}
+
+/// The plain sort counts in 64 bits, as ours does, and once more in 32, which take half the memory.
+fn incoming(objects: u64, near: bool) {
+    let graph = Graph::build(&case(objects, near).input(Route::Copied)).expect("a graph");
+    let targets = if near { "near" } else { "at random" };
+    inverted::<u64>(&format!("{objects} objects, targets {targets}, counts of 64 bits"), &graph);
+    inverted::<u32>(&format!("{objects} objects, targets {targets}, counts of 32 bits"), &graph);
 }
 
 /// The sizes of `growth`: each twice the one before.

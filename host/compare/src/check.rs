@@ -1,10 +1,11 @@
-//! One case, by one route, on both sides: the refusal or every column, the zeros behind them, ROOM, and the questions.
+//! One case, by one route, on both sides: the refusal or every column, the zeros behind them, ROOM, the questions, and the incoming side.
 use midden::graph as original;
 use yokefathom::compare::{Room, Whole};
 use yokefathom::{ARRAY_ELEMENT, Account, Graph, LOADER, Refusal};
 
 use crate::case::{Case, Route};
 use crate::handed;
+use crate::incoming;
 use crate::lent::{self, Outcome, Used};
 use crate::oracle;
 use crate::random::Random;
@@ -231,6 +232,7 @@ pub fn route(case: &Case, route: Route, random: &mut Random, tally: &mut Tally) 
     let theirs = oracle::build(case, route);
     columns(&ours, &theirs)?;
     questions(&ours, &theirs, case.names, random, tally)?;
+    incoming::compare(&ours, &theirs, random, tally)?;
     tally.graph(Some(route), case.threads);
     tally.dangling += ours.dangling;
     count(&ours, tally);

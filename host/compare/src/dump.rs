@@ -15,6 +15,7 @@ use yokefathom::{ARRAY_ELEMENT, Graph, LOADER};
 use crate::case::{Case, ROUTES, Route};
 use crate::check::{self, same};
 use crate::handed;
+use crate::incoming;
 use crate::lent::Outcome;
 use crate::oracle;
 use crate::random::Random;
@@ -148,7 +149,7 @@ fn ask(ours: &Graph, theirs: &original::Graph, names: usize, random: &mut Random
     Ok(())
 }
 
-/// One route under one policy: the account by the rules, every column, the questions.
+/// One route under one policy: the account by the rules, every column, the questions, the incoming side.
 fn route(imported: &Imported, route: Route, random: &mut Random, tally: &mut Tally) -> Outcome {
     let case = &imported.case;
     same("refusal", verdict::refusal(case, route), None)?;
@@ -158,6 +159,7 @@ fn route(imported: &Imported, route: Route, random: &mut Random, tally: &mut Tal
     check::columns(&ours, &theirs)?;
     check::questions(&ours, &theirs, case.names, random, tally)?;
     ask(&ours, &theirs, case.names, random, tally)?;
+    incoming::compare(&ours, &theirs, random, tally)?;
     tally.graph(Some(route), case.threads);
     tally.dangling += ours.dangling;
     check::count(&ours, tally);

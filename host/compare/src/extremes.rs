@@ -1,7 +1,7 @@
 //! The limits of document 01, from few numbers: long columns of zeros that are only measured, and objects that share one part. What is just at a
 //! limit would take gigabytes to build, so it is lent no room, and ROOM says that the limit was not passed. The original has no limits.
-use yokefathom::Parts;
-use yokefathom::compare::{CodedRoom, Room};
+use yokefathom::compare::{CodedRoom, IncomingRoom, Room};
+use yokefathom::{Columns, Parts};
 
 use crate::case::{Case, ROUTES, Route};
 use crate::check::{said, same};
@@ -135,6 +135,45 @@ fn handed(labels: usize, tally: &mut Tally) -> Outcome {
     same("refusal of from_parts", says, expected)
 }
 
+/// Finished columns of a graph without an edge.
+const EDGELESS: Columns<'static> = Columns {
+    targets: &[],
+    weak_from: &[],
+    weak_to: &[],
+    bases: &[0],
+    short: &[0],
+    long_at: &[],
+    long_value: &[],
+    fields: &[0],
+    table: &[],
+    escape_at: &[],
+    escape_label: &[],
+    codes: &[],
+};
+
+/// A graph inverted into nothing: refused at an object beyond the limits, or else for want of room.
+fn inverted(graph: &Columns<'_>, tally: &mut Tally) -> Outcome {
+    let expected = match verdict::unreadable(graph) {
+        Some(object) => vec![12, object],
+        None => vec![9, if graph.targets.is_empty() { 11 } else { 10 }],
+    };
+    tally.incoming_refused[expected[0] as usize] += 1;
+    same("refusal of invert", said(&IncomingRoom::default().invert(graph))?, expected)
+}
+
+/// So many objects without an edge.
+fn inverted_objects(objects: usize, tally: &mut Tally) -> Outcome {
+    let (bases, short) = (vec![0; objects / 256 + 1], vec![0; objects + 1]);
+    inverted(&Columns { bases: &bases, short: &short, ..EDGELESS }, tally)
+}
+
+/// One object that holds itself so many times.
+fn inverted_edges(edges: usize, tally: &mut Tally) -> Outcome {
+    let (targets, codes) = (vec![0; edges], vec![0; edges]);
+    let offsets = Columns { short: &[0, u16::MAX], long_at: &[1], long_value: &[edges as u64], ..EDGELESS };
+    inverted(&Columns { targets: &targets, codes: &codes, ..offsets }, tally)
+}
+
 /// Each limit, or for a short run the first alone, at it and one over; how many differences there are.
 pub fn run(all: bool, tally: &mut Tally) -> u64 {
     let mut differences = 0;
@@ -155,6 +194,10 @@ pub fn run(all: bool, tally: &mut Tally) -> u64 {
     }
     for labels in [MANY, MANY + 1] {
         tell(format!("{labels} labels handed over"), handed(labels, tally));
+    }
+    for more in if all { 0..2 } else { 0..0 } {
+        tell(format!("{} objects inverted", OBJECTS + more), inverted_objects(OBJECTS + more, tally));
+        tell(format!("{} edges inverted", MANY + more), inverted_edges(MANY + more, tally));
     }
     differences
 }

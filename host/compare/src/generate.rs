@@ -232,7 +232,7 @@ pub fn damage(case: &mut Case, random: &mut Random) {
 }
 
 /// One entry of a column changed, or the column made longer or shorter by one.
-fn hit<T: Copy>(column: &mut Vec<T>, random: &mut Random, values: &[T]) {
+pub fn hit<T: Copy>(column: &mut Vec<T>, random: &mut Random, values: &[T]) {
     if column.is_empty() || random.chance(12) {
         match random.chance(2) {
             true => column.push(values[0]),
@@ -245,7 +245,7 @@ fn hit<T: Copy>(column: &mut Vec<T>, random: &mut Random, values: &[T]) {
 }
 
 /// The same with a number just below, at or above a bound, before the other values.
-fn hit_near<T: Copy + From<u32>>(column: &mut Vec<T>, random: &mut Random, bound: usize, others: &[T]) {
+pub fn hit_near<T: Copy + From<u32>>(column: &mut Vec<T>, random: &mut Random, bound: usize, others: &[T]) {
     let near = (bound as u64 + random.below(3)).saturating_sub(1) as u32;
     hit(column, random, &[&[T::from(near)], others].concat());
 }

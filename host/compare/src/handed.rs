@@ -5,6 +5,7 @@ use yokefathom::{Graph, Parts, Schema};
 use crate::case::Case;
 use crate::check::{self, said, same};
 use crate::generate::{self, OwnParts};
+use crate::incoming;
 use crate::lent::{self, Outcome, Used};
 use crate::oracle;
 use crate::random::Random;
@@ -49,6 +50,7 @@ pub fn compare(case: &Case, parts: &Parts<'_>, random: &mut Random, tally: &mut 
     let theirs = oracle::from_parts(case, parts);
     check::columns(&ours, &theirs)?;
     check::questions(&ours, &theirs, case.names, random, tally)?;
+    incoming::compare(&ours, &theirs, random, tally)?;
     tally.graph(None, case.threads);
     check::count(&ours, tally);
     Ok(())

@@ -1,5 +1,5 @@
 //! The columns lent to a call: filled with something before it, cut below their needs, and found zero behind what it used.
-use yokefathom::compare::{CodedRoom, Room};
+use yokefathom::compare::{CodedRoom, IncomingRoom, Room};
 
 use crate::random::Random;
 
@@ -51,6 +51,14 @@ impl Used {
         let (offsets, table) = (objects + 1, names + 2);
         Used { edges: at(1), weak: at(2), roots: at(3), long: at(4), fields: at(5), escapes: at(6), offsets, table }
     }
+
+    /// By the numbers that inverting a graph of so many objects said.
+    pub fn of_entries(says: &[u64], objects: usize) -> Used {
+        if says[0] != 0 {
+            return Used::default();
+        }
+        Used { edges: says[1] as usize, long: says[2] as usize, offsets: objects + 1, ..Used::default() }
+    }
 }
 
 /// A lent column: its name, its buffer in document 01, what an accepted call needs of it, and what it leaves in it.
@@ -98,6 +106,24 @@ pub fn all(room: &mut Room, used: Used, places: usize) -> Vec<Column<'_>> {
     columns
 }
 
+/// How many columns the incoming side has, work space with them.
+pub const INCOMING: usize = 7;
+
+/// The columns of a graph's incoming side.
+pub fn incoming(room: &mut IncomingRoom, used: Used) -> Vec<Column<'_>> {
+    let bases = used.offsets.div_ceil(256);
+    let columns: [Column<'_>; INCOMING] = [
+        column("sources of entries", 10, used.edges, used.edges, &mut room.sources),
+        column("places of entries", 10, used.edges, used.edges, &mut room.places),
+        column("bases of entries", 11, bases, bases, &mut room.bases),
+        column("short offsets of entries", 11, used.offsets, used.offsets, &mut room.short),
+        column("places of long offsets of entries", 11, used.long, used.long, &mut room.long_at),
+        column("long offsets of entries", 11, used.long, used.long, &mut room.long_value),
+        column("working offsets of entries", 11, used.offsets, 0, &mut room.working),
+    ];
+    columns.into()
+}
+
 /// Cuts long columns: a call that is refused before ROOM is refused with any room.
 pub fn shorten(columns: Vec<Column<'_>>) {
     for column in columns {
@@ -111,6 +137,20 @@ pub fn spoil(columns: Vec<Column<'_>>, random: &mut Random) {
     for column in columns {
         column.numbers.spoil(extra, 1 + random.below(255) as u8);
     }
+}
+
+/// Cuts columns to what they need, and no longer.
+pub fn fit(columns: Vec<Column<'_>>) {
+    for column in columns {
+        column.numbers.cut(column.need);
+    }
+}
+
+/// Makes one column one shorter than its need: its buffer, if there is such a column and it is needed.
+pub fn one_short(columns: Vec<Column<'_>>, which: usize) -> Option<u64> {
+    let column = columns.into_iter().nth(which).filter(|column| column.need > 0)?;
+    column.numbers.cut(column.need - 1);
+    Some(column.buffer)
 }
 
 /// Cuts one to three columns below their needs; the lowest buffer so cut, if there was any need.

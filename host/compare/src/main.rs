@@ -7,7 +7,7 @@
 //!     compare seconds N              all of these in part, with seeds from the clock's, for about N seconds
 //!     compare dump FILE              a real dump, through the original's own index pass
 //!     compare list FOLDER            the fixed list for `crates/replay`, written behind what the folder's `stdin` and `stdout` have of their own
-//!     compare bench OBJECTS          times of both sides
+//!     compare bench OBJECTS          times of both sides, and of inverting a graph against a plain sort of its edges
 //!     compare growth                 times and peak memory of both sides at four sizes
 mod bench;
 mod case;
@@ -16,6 +16,7 @@ mod dump;
 mod extremes;
 mod generate;
 mod handed;
+mod incoming;
 mod lent;
 mod list;
 mod memory;

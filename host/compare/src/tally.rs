@@ -14,6 +14,10 @@ pub struct Tally {
     /// Refusals of `from_parts`, by number, and those of PARTS by column.
     pub handed: [u64; 13],
     pub columns: [u64; 6],
+    /// Graphs whose incoming sides were compared, every column; their long offsets; and the refusals of inverting, by number.
+    pub incoming: u64,
+    pub incoming_long: u64,
+    pub incoming_refused: [u64; 13],
     pub questions: u64,
     pub edges: u64,
     pub weak: u64,
@@ -64,6 +68,13 @@ impl fmt::Display for Tally {
             f,
             "  with {} edges, {} weak pairs, {} dangling, {} long offsets, {} label escapes, {} of them with ranked fields",
             self.edges, self.weak, self.dangling, self.long, self.escapes, self.ranked
+        )?;
+        writeln!(
+            f,
+            "incoming sides: {}, with {} long offsets; refused, by number: {}",
+            self.incoming,
+            self.incoming_long,
+            counts(&self.incoming_refused)
         )?;
         writeln!(f, "questions: {} ({} of them asked the name count)", self.questions, self.name_count)?;
         writeln!(f, "builds refused, by number: {}", counts(&self.refused))?;

@@ -1,8 +1,9 @@
-//! Document 01's refusals 1 to 8 and PARTS, its account and its places, read from the page once more and written down as plainly as possible.
-//! The original checks nothing and has no account, so this is what these are compared with.
+//! Document 01's refusals 1 to 8 and PARTS, when an object reads back, its account and its places, read from the page once more and written down as
+//! plainly as possible. The original checks nothing and has no account, so this is what these are compared with.
 use std::collections::HashSet;
+use std::ops::Range;
 
-use yokefathom::{ARRAY_ELEMENT, Account, LOADER, Parts};
+use yokefathom::{ARRAY_ELEMENT, Account, Columns, LOADER, Parts};
 
 use crate::case::{Case, Route};
 
@@ -296,4 +297,69 @@ pub fn handed(case: &Case, parts: &Parts<'_>) -> Option<Vec<u64>> {
         .or_else(|| at(3, bad_target(parts, objects)))
         .or_else(|| at(4, bad_pair(parts, objects)))
         .or_else(|| at(5, parts.roots.iter().position(|&root| root as usize >= objects)))
+}
+
+/// There is one offset more than objects.
+pub fn objects_in(graph: &Columns<'_>) -> usize {
+    graph.short.len().saturating_sub(1)
+}
+
+/// An offset, if it can be read, of a long list that rises.
+fn offset_read(graph: &Columns<'_>, at: usize) -> Option<u64> {
+    match *graph.short.get(at)? {
+        u16::MAX => graph.long_at.binary_search(&u32::try_from(at).ok()?).ok().map(|row| graph.long_value[row]),
+        above => graph.bases.get(at / 256)?.checked_add(u64::from(above)),
+    }
+}
+
+/// Where an object's edges lie, if its offsets can be read, do not fall and end within codes and targets.
+pub fn span_read(graph: &Columns<'_>, object: usize) -> Option<Range<usize>> {
+    let (start, end) = (offset_read(graph, object)?, offset_read(graph, object + 1)?);
+    (start <= end && end <= graph.codes.len().min(graph.targets.len()) as u64).then_some(start as usize..end as usize)
+}
+
+/// The label of an edge, if its code and the index expected next give one. Whether a field's or an element's was meant, the code says.
+fn label_read(graph: &Columns<'_>, edge: usize, expected: u64) -> Option<u32> {
+    let code = graph.codes[edge];
+    let label = match code & 0x7FFF {
+        0x7FFF => graph.escape_at.binary_search(&(edge as u64)).ok().map(|row| graph.escape_label[row])?,
+        gap if code >= 0x8000 => u32::try_from(u64::from(ARRAY_ELEMENT) + expected + u64::from(gap)).ok()?,
+        field => *graph.fields.get(usize::from(field))?,
+    };
+    ((label >= ARRAY_ELEMENT) == (code >= 0x8000)).then_some(label)
+}
+
+fn labels_read(graph: &Columns<'_>, edges: Range<usize>) -> bool {
+    let mut expected = 0;
+    edges.into_iter().all(|edge| match label_read(graph, edge, expected) {
+        None => false,
+        Some(label) => {
+            if label >= ARRAY_ELEMENT {
+                expected = u64::from(label - ARRAY_ELEMENT) + 1;
+            }
+            true
+        }
+    })
+}
+
+fn strictly_rises<T: PartialOrd>(list: &[T]) -> bool {
+    list.windows(2).all(|pair| pair[0] < pair[1])
+}
+
+/// M-103's COLUMNS: the lowest object that cannot be read back, or lies beyond the limits of objects and places.
+pub fn unreadable(graph: &Columns<'_>) -> Option<u64> {
+    let objects = objects_in(graph);
+    let lists = strictly_rises(graph.long_at)
+        && strictly_rises(graph.escape_at)
+        && graph.long_at.len() == graph.long_value.len()
+        && graph.escape_at.len() == graph.escape_label.len();
+    let reads = |object: usize| {
+        lists
+            && span_read(graph, object).is_some_and(|span| {
+                span.end <= MANY
+                    && graph.targets[span.clone()].iter().all(|&target| (target as usize) < objects)
+                    && labels_read(graph, span)
+            })
+    };
+    (0..objects).find(|&object| object >= OBJECTS || !reads(object)).map(|object| object as u64)
 }

@@ -1,5 +1,6 @@
-//! The worked dump of document 01.
-use yokefathom::{Classes, Input, Objects, ReferencePolicy, References, Schema, Slots, Statics};
+//! The worked dump of document 01, for the tests and the examples: each of them uses a part of it.
+#![allow(dead_code)]
+use yokefathom::{Classes, Graph, Input, Objects, ReferencePolicy, References, Refusal, Schema, Slots, Statics};
 
 pub const OBJECTS: Objects<'static> =
     Objects { ids: &[256, 264, 512, 4096], kinds: &[0, 0, 1, 3], classes: &[0, 1, 0, 0], lengths: &[0, 0, 3, 0] };
@@ -34,4 +35,21 @@ pub fn bodies(id_size: usize) -> (Vec<u8>, [u64; 4], [u32; 4]) {
 /// The dump by one route, under the policy that keeps nothing.
 pub fn worked(references: References<'_>) -> Input<'_> {
     Input { objects: OBJECTS, schema: SCHEMA, references, roots: &[3, 0, 3], policy: ReferencePolicy::default() }
+}
+
+/// What becomes of the dump by the copied route, and by the raw route with both id sizes.
+pub fn graphs(change: impl Fn(Input<'_>) -> Result<Graph, Refusal>) -> Vec<Result<Graph, Refusal>> {
+    let raw = [4, 8].map(|id_size| {
+        let (bytes, starts, lengths) = bodies(id_size);
+        change(worked(References::Raw { bytes: &bytes, id_size, starts: &starts, lengths: &lengths }))
+    });
+    [change(worked(COPIED))].into_iter().chain(raw).collect()
+}
+
+/// The graph of the dump under a policy: every route gives the same one.
+pub fn built(policy: ReferencePolicy) -> Graph {
+    let mut graphs = graphs(|input| Graph::build(&Input { policy, ..input })).into_iter().map(|graph| graph.expect("a sound dump"));
+    let graph = graphs.next().expect("the copied route");
+    assert!(graphs.all(|other| other == graph), "the routes differ");
+    graph
 }
