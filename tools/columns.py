@@ -40,7 +40,7 @@ def order_of(path):
     crate = path.parts[1]
     if path.parts[1:] == ("ask_edges", "src", "lib.rt"):
         return READER
-    if crate == "inverse" or crate.startswith("incoming") or path.name == "incoming.rt":
+    if crate == "inverse" or crate.startswith("incoming") or path.name == "holders.rt":
         return ASK + INCOMING
     if crate.startswith("ask_") or path.name in ("questions.rt", "read.rt"):
         return ASK

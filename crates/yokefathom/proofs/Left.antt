@@ -11,6 +11,7 @@ use Rattle.slot_rows.specs.declared.Filled.{Filled}
 use Rattle.slot_rows.specs.Rows.{filledSays, left, Filling}
 use Rattle.rules.specs.Questions.{EdgesLeft}
 use Rattle.rules.specs.Incoming.{InLeft}
+use Rattle.incoming.specs.Laying.{leftInverted}
 use Rattle.ask_edges.specs.Object.{leftEdges}
 use Rattle.yokefathom.specs.Calls.{BuildTold, PartsTold, SlotsTold, EdgesTold, InvertTold}
 
@@ -34,7 +35,8 @@ edges-told e f = record {
   labels = ap (λ (x : EdgesLeft). x .labels) f;
 }
 
-pub invert-told : {left : InLeft} {says answer : List ℕ} (of : List ℕ → InLeft) → ((z : List ℕ) → of z .says ≡ z) → answer ≡ told 4 says → of says ≡ left → InvertTold left answer (of (left .says))
-invert-told {left} {says} of is e l =
-    let said : says ≡ left .says = sym (is says) ∙ ap (λ (x : InLeft). x .says) l in
-    record { told-as = e ∙ ap (told 4) said; columns = ap of (sym said) ∙ l }
+pub invert-told : {left : InLeft} {says answer s p b h a v w : List ℕ} → answer ≡ told 4 says → leftInverted says s p b h a v w ≡ left
+    → InvertTold left answer (leftInverted (left .says) s p b h a v w)
+invert-told {left} {says} {answer} {s} {p} {b} {h} {a} {v} {w} e l =
+    let said : says ≡ left .says = ap (λ (x : InLeft). x .says) l in
+    record { told-as = e ∙ ap (told 4) said; columns = ap (λ (z : List ℕ). leftInverted z s p b h a v w) (sym said) ∙ l }

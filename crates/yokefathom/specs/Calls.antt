@@ -43,9 +43,9 @@ pub record EdgesTold (left : EdgesLeft) (answer t l : List ℕ) : Type 0 where
   pub labels : l ≡ left .labels
 
 -- Inverting, told likewise.
-pub record InvertTold (left : InLeft) (answer : List ℕ) (columns : InLeft) : Type 0 where
+pub record InvertTold (left : InLeft) (answer : List ℕ) (found : InLeft) : Type 0 where
   pub told-as : answer ≡ told 4 (left .says)
-  pub columns : columns ≡ left
+  pub columns : found ≡ left
 
 -- An exact label, told: an answer that meets the contract of `exact_label`, as numbers; and likewise one of `label_of`.
 pub record ExactTold (c : Columns) (o k : ℕ) (answer : List ℕ) : Type 0 where

@@ -176,6 +176,15 @@ fn wide(edges: usize, objects: u64) -> Case {
     case.copied(8)
 }
 
+/// An object that holds itself, and that another holds three times.
+fn repeats() -> Case {
+    let mut case = empty(2, 4);
+    case.class(0, 0, false, 0, &[(0, 0, false), (4, 1, false)], &[]);
+    case.holds(8, 0, 0, &[8, 16]);
+    case.holds(16, 1, 0, &[8, 0, 8, 8]);
+    case.copied(8)
+}
+
 /// An array with these numbers of nulls before its elements.
 fn gaps(nulls: &[usize]) -> Case {
     let mut case = empty(0, 4);
@@ -239,6 +248,7 @@ fn accepted() -> Vec<(String, Case)> {
     add("ids far from the base", far_ids());
     add("shared slots and shared parts", shared());
     add("roots that repeat and fall", blocks(5).rooted(&[4, 0, 4, 2, 0, 4]));
+    add("an object that holds itself, and is held three times", repeats());
     for objects in [255, 256, 257, 512] {
         add(&format!("{objects} objects"), blocks(objects));
     }
@@ -246,6 +256,7 @@ fn accepted() -> Vec<(String, Case)> {
         add(&format!("offset difference {edges}"), wide(edges, 3));
     }
     add("long offsets up to the next block", wide(65_536, 300));
+    add("65537 edges of one object", wide(65_537, 2));
     for nulls in [32_766, 32_767, 32_768] {
         add(&format!("first gap {nulls}"), gaps(&[nulls]));
     }

@@ -6,6 +6,7 @@ use midden::graph::Graph;
 use yokefathom::{ARRAY_ELEMENT, LOADER};
 
 use crate::case::{Case, Route};
+use crate::incoming::Plain;
 use crate::oracle;
 use crate::verdict;
 
@@ -205,6 +206,46 @@ fn questions(out: &mut String, graph: &Graph, names: usize, asked: &Questions) {
     }
 }
 
+/// The names of the incoming columns, and the buffer that each one is of.
+const INCOMING: [(&str, u64); 7] =
+    [("sources", 10), ("places", 10), ("in_bases", 11), ("in_short", 11), ("in_long_at", 11), ("in_long_value", 11), ("working", 11)];
+
+fn wide<T: Copy + Into<u64>>(column: &[T]) -> Vec<u64> {
+    column.iter().map(|&number| number.into()).collect()
+}
+
+/// The incoming side of the graph: its columns in exact room, what is said where one of them is a number short, and who holds each object.
+fn incoming(out: &mut String, graph: &Graph) {
+    let plain = Plain::of_original(graph);
+    let (entries, long, offsets) = (plain.sources.len(), plain.long_at.len(), plain.short.len());
+    line(out, format_args!("incoming: entries {entries}, long {long}"));
+    let columns = [
+        wide(&plain.sources),
+        wide(&plain.places),
+        wide(&plain.bases),
+        wide(&plain.short),
+        wide(&plain.long_at),
+        wide(&plain.long_value),
+        vec![0; offsets],
+    ];
+    for ((name, _), column) in INCOMING.iter().zip(&columns) {
+        line(out, format_args!("{name}{}", numbers(column)));
+    }
+    for ((name, buffer), _) in INCOMING.iter().zip(&columns).filter(|(_, column)| !column.is_empty()) {
+        line(out, format_args!("{name} short refused: 9 at {buffer} left zero"));
+    }
+    let entry = |at: usize| format!("{} at {}", plain.sources[at], plain.places[at]);
+    for object in 0..graph.root {
+        let span = plain.span(object);
+        match span.len() {
+            0 => line(out, format_args!("held {object}: 0")),
+            degree => line(out, format_args!("held {object}: {degree} first {} last {}", entry(span.start), entry(span.end - 1))),
+        }
+    }
+    let none = format!("index {}", graph.root);
+    line(out, format_args!("held {}: {none} first {none} last {none}", graph.root));
+}
+
 fn done(out: &mut String, case: &Case, route: Route, graph: &Graph, rooms: &Rooms, asked: &Questions) {
     let (needs, dangling) = (needs(case, route, graph), graph.dangling);
     let [_, _, weak, _, roots, _, _, _, long, _, fields, _, escapes, _, edges_in_all, ..] = needs;
@@ -226,6 +267,7 @@ fn done(out: &mut String, case: &Case, route: Route, graph: &Graph, rooms: &Room
         line(out, format_args!("object {object} span {} {} edges{}{short} weak{}", span.start, span.end, edges(&held), numbers(&weak)));
     }
     questions(out, graph, case.names, asked);
+    incoming(out, graph);
 }
 
 /// The lowest buffer that is lent less than it needs.

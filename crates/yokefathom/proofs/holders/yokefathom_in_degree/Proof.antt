@@ -1,9 +1,9 @@
--- `yokefathom::incoming::yokefathom_in_degree` meets its contract. Assumes nothing.
+-- `yokefathom::holders::yokefathom_in_degree` meets its contract. Assumes nothing.
 use mathlib.Core.Path.{ap, _∙_}
 use Rattle.answer_numbers.specs.Told.{told}
 use borrow.Author.Needs.{needs}
-use Rattle.yokefathom.proofs.incoming.yokefathom_in_degree.Statement.{statement}
-use Rattle.yokefathom.proofs.incoming.yokefathom_in_degree.Tie as tie
+use Rattle.yokefathom.proofs.holders.yokefathom_in_degree.Statement.{statement}
+use Rattle.yokefathom.proofs.holders.yokefathom_in_degree.Tie as tie
 
 returns : tie.Need-returns
 returns c = c .edge-count .ensures ∙ ap (told 4) (c .before .in-degree .ensures)

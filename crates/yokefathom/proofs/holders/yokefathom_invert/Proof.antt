@@ -1,9 +1,8 @@
--- `yokefathom::incoming::yokefathom_invert` meets its contract. Assumes nothing.
-use mathlib.Core.Path.{refl}
+-- `yokefathom::holders::yokefathom_invert` meets its contract. Assumes nothing.
 use Rattle.yokefathom.proofs.Left.{invert-told}
 use borrow.Author.Needs.{needs}
-use Rattle.yokefathom.proofs.incoming.yokefathom_invert.Statement.{statement}
-use Rattle.yokefathom.proofs.incoming.yokefathom_invert.Tie as tie
+use Rattle.yokefathom.proofs.holders.yokefathom_invert.Statement.{statement}
+use Rattle.yokefathom.proofs.holders.yokefathom_invert.Tie as tie
 
 -- The places, back from the end: behind each call, and the start.
 abbrev from-end : tie.After-inverted → tie.After-inverted
@@ -60,7 +59,7 @@ same-length-7 : tie.Need-same-length-7
 same-length-7 c = at-invert c .invert .kept .1 .1 .1 .1 .1 .1 .1 .1 .1 .1 .1 .1 .1 .1 .1 .0
 
 returns : tie.Need-returns
-returns c = invert-told _ (λ z. refl) (at-inverted c .inverted .ensures) (at-invert c .invert .ensures)
+returns c = invert-told (at-inverted c .inverted .ensures) (at-invert c .invert .ensures)
 
 pub yokefathom-invert-spec : {M : Type 1} → statement M
 yokefathom-invert-spec =
