@@ -1,4 +1,4 @@
-// What is written of a build: the counts, the account, every column lent, and the answers; or the refusal, and whether all that was lent is zero.
+// What is written of a build: the counts, the account, every column lent, the answers, and the incoming side; or the refusal, and whether all that was lent is zero.
 use crate::answers;
 use crate::case::Numbers;
 use case_text::column;
@@ -175,7 +175,7 @@ fn left(zero: bool) {
     }
 }
 
-// After an acceptance every column is written whole, and the questions are asked.
+// After an acceptance every column is written whole, the questions are asked, and the graph is inverted.
 fn done<'a>(
     c: Counts,
     halves: &'a [u32],
@@ -221,6 +221,19 @@ fn done<'a>(
         escape_at,
         escape_label,
         codes,
+    );
+    case_incoming::all(
+        c,
+        n.objects,
+        bases,
+        short,
+        long_at,
+        long_value,
+        codes,
+        targets,
+        fields,
+        escape_at,
+        escape_label,
     );
 }
 

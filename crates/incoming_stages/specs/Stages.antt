@@ -1,12 +1,13 @@
 -- The stages of inverting that know no entry: what each one answers and leaves. Assumes nothing.
-use Prim.Native.Nat.{ℕ, suc, _+_, _-_}
+use Prim.Native.Nat.{ℕ, suc, _+_, _-_, _≤_}
 use mathlib.Core.Path.{_≡_}
-use mathlib.Core.Bool.{cond}
+use mathlib.Core.Bool.{Bool, true, cond}
 use mathlib.Core.List.{List, [], _∷_}
-use lib.Dec.{ltb}
+use lib.Dec.{leb, ltb}
 use lib.ListN.{length, take}
 use Rattle.columns.specs.Lists.{_!_, allOf, anyOf}
 use Rattle.columns.specs.Columns.{zeros, cleared, accepts, leaves, kept}
+use Rattle.columns.specs.Ranks.{Climbs}
 use Rattle.store.specs.Blocked.{Blocked, readBack, blocked, blocksOf, codingSays}
 use Rattle.rules.specs.Incoming.{InRooms}
 
@@ -29,6 +30,24 @@ earlySays bad objects entries r =
     (cond (anyOf (ltb (r .sources) entries ∷ ltb (r .places) entries ∷ [])) (9 ∷ 10 ∷ [])
     (cond (anyOf (ltb (r .bases) (blocksOf (suc objects)) ∷ ltb (r .short) (suc objects) ∷ ltb (r .working) (suc objects) ∷ [])) (9 ∷ 11 ∷ [])
     (0 ∷ entries ∷ 0 ∷ [])))
+
+-- Numbers that climb, within the limit, with room for their bases and short numbers: coding can refuse their long rows alone.
+pub record Climbing (vs : List ℕ) (nb ns : ℕ) : Type 0 where
+  pub few : length vs ≤ 67108865
+  pub climbs : Climbs vs
+  pub room-bases : blocksOf (length vs) ≤ nb
+  pub room-short : length vs ≤ ns
+
+unfoldable pub longFits : ℕ → ℕ → ℕ → Bool
+longFits rows na nv = allOf (leb rows na ∷ leb rows nv ∷ [])
+
+-- What coding asks, behind an answer that accepts: the working column begins with the offsets.
+pub record CodeReadied (objects : ℕ) (w : List ℕ) (nb ns : ℕ) : Type 0 where
+  pub long : objects + 1 ≤ length w
+  pub climbing : Climbing (take (objects + 1) w) nb ns
+
+abbrev pub CodeReady : List ℕ → ℕ → List ℕ → ℕ → ℕ → Type 0
+CodeReady says objects w nb ns = accepts says ≡ true → CodeReadied objects w nb ns
 
 -- From the answer of coding the offsets, of so many entries: any refusal of that is ROOM 11. An answer so far that refuses is handed on.
 unfoldable pub codedAs : ℕ → List ℕ → List ℕ

@@ -3,15 +3,15 @@ use rules::Inverted;
 use store::CodedOffsets;
 use store::Offset;
 ghost use mathlib.Core.Path.{_≡_};
-ghost use mathlib.Core.Bool.{true};
-ghost use Prim.Native.Nat.{_+_, _-_, _≤_};
+ghost use Prim.Native.Nat.{_+_, _-_, _<_, min};
 ghost use lib.ListN.{length};
 ghost use Rattle.columns.specs.Columns.{accepts, kept};
 ghost use Rattle.columns.specs.Loans.{entry, exit};
-ghost use Rattle.store.specs.Blocked.{codedSays, offsetSays};
+ghost use Rattle.columns.specs.Ranks.{Climbs};
+ghost use Rattle.store.specs.Blocked.{codedSays, offsetSays, longRows, Coding};
 ghost use Rattle.rules.specs.Tables.{offsetColumns};
 ghost use Rattle.rules.specs.Types.{invertedSays};
-ghost use Rattle.incoming_stages.specs.Stages.{betweenOf, entriesOf, earlySays, lentRooms, codedAs, CodedIn, Settled};
+ghost use Rattle.incoming_stages.specs.Stages.{betweenOf, entriesOf, earlySays, lentRooms, longFits, Climbing, CodeReady, codedAs, CodedIn, Settled};
 
 // How many objects there are: one fewer than short offsets.
 pub fn objects(short: usize) -> usize
@@ -109,6 +109,67 @@ fn entries_kept(answer: Inverted) -> usize
     }
 }
 
+// The last place of the block that begins at `start`, of n numbers.
+fn last_of(start: usize, n: usize) -> usize
+    requires { ⌜ start < n ⌝ }
+    ensures { λ r. ⌜ r ≡ min (start + 255) (n - 1) ⌝ }
+{
+    if n - start <= 255 {
+        return n - 1;
+    }
+    start + 255
+}
+
+// How many rows the long list needs, of offsets that climb: none where the last offset of every block is short.
+fn long_rows(values: &[u64]) -> usize
+    requires { ⌜ Climbs (now values) ⌝ }
+    ensures { λ r. ⌜ r ≡ longRows (entry values) ⌝ }
+{
+    let mut start = 0;
+    while start < values.len() {
+        let last = last_of(start, values.len());
+        if 65535 <= values[last] - values[start] {
+            return store::code::count_long(values);
+        }
+        start += 256;
+    }
+    0
+}
+
+fn fits(rows: usize, long_at: usize, long_value: usize) -> bool
+    ensures { λ r. ⌜ r ≡ longFits rows «long_at» «long_value» ⌝ }
+{
+    if long_at < rows {
+        return false;
+    }
+    rows <= long_value
+}
+
+// `store::code_offsets` of numbers that climb and have room but for the long rows: nothing else is tested, and numbers are read once where none is long.
+fn code_climbing(
+    values: &[u64],
+    in_bases: &mut [u64],
+    in_short: &mut [u16],
+    in_long_at: &mut [u32],
+    in_long_value: &mut [u64],
+) -> CodedOffsets
+    requires { ⌜ Climbing (now values) (length (now «in_bases»)) (length (now «in_short»)) ⌝ }
+    ensures { λ r. ⌜ Coding (entry values) (length (entry «in_bases»)) (length (entry «in_short»)) (length (entry «in_long_at»)) (length (entry «in_long_value»)) r
+        (exit «in_bases») (exit «in_short») (exit «in_long_at») (exit «in_long_value») ⌝ }
+{
+    let rows = long_rows(values);
+    if fits(rows, in_long_at.len(), in_long_value.len()) {
+        store::code::write_all(values, rows, in_bases, in_short, in_long_at, in_long_value);
+        return CodedOffsets::Done {
+            bases: (values.len() + 255) / 256,
+            short: values.len(),
+            long: rows,
+        };
+    }
+    store::code::zero_all(in_bases, in_short, in_long_at, in_long_value);
+    CodedOffsets::Room(5)
+}
+
 // The answer behind the coding of the offsets, of so many entries.
 fn with_long(entries: usize, coded: CodedOffsets) -> Inverted
     ensures { λ r. ⌜ invertedSays r ≡ codedAs entries (codedSays coded) ⌝ }
@@ -135,12 +196,12 @@ pub fn code(
     in_long_at: &mut [u32],
     in_long_value: &mut [u64],
 ) -> Inverted
-    requires { ⌜ (accepts (invertedSays answer) ≡ true → objects + 1 ≤ length (now working)) ⌝ }
+    requires { ⌜ CodeReady (invertedSays answer) objects (now working) (length (now «in_bases»)) (length (now «in_short»)) ⌝ }
     ensures { λ r. ⌜ CodedIn (invertedSays answer) objects (entry working) (length (entry «in_bases»)) (length (entry «in_short»)) (length (entry «in_long_at»))
         (length (entry «in_long_value»)) (invertedSays r) (exit «in_bases») (exit «in_short») (exit «in_long_at») (exit «in_long_value») ⌝ }
 {
     if is_done(answer) {
-        let coded = store::code_offsets(
+        let coded = code_climbing(
             &working[..objects + 1],
             in_bases,
             in_short,

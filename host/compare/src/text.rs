@@ -239,11 +239,12 @@ fn incoming(out: &mut String, graph: &Graph) {
         let span = plain.span(object);
         match span.len() {
             0 => line(out, format_args!("held {object}: 0")),
+            1 => line(out, format_args!("held {object}: 1 first {}", entry(span.start))),
             degree => line(out, format_args!("held {object}: {degree} first {} last {}", entry(span.start), entry(span.end - 1))),
         }
     }
     let none = format!("index {}", graph.root);
-    line(out, format_args!("held {}: {none} first {none} last {none}", graph.root));
+    line(out, format_args!("held {}: {none} first {none}", graph.root));
 }
 
 fn done(out: &mut String, case: &Case, route: Route, graph: &Graph, rooms: &Rooms, asked: &Questions) {
