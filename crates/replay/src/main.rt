@@ -3,7 +3,7 @@
 // A case is a title in quotes and lists in brackets: six numbers (route 0 copied or 1 raw, keep soft, keep weak, names, base, id size), the input columns
 // in the order of the build's parameters, the roots, one or more sets of seventeen rooms, and three lists of questions. `n*x` stands for n times x, `n*x+d` for x, x + d, .. ,
 // and words outside brackets are remarks. The columns hold nines before a build. Of a build that is done every column is written whole, with what is behind the
-// used part, then each object's span, edges and weak targets, and the answers; of a refusal its number and place, and whether all that was lent is zero.
+// used part, then each object's span, edges and weak targets, the answers, and the incoming side; of a refusal its number and place, and whether all that was lent is zero.
 // A text that is malformed is told with the place, and nothing more is built.
 mod rooms;
 mod routes;
