@@ -1,7 +1,7 @@
 // The line of an object: its span, its edges in exactly the room that they need, what is said of one number less, and its weak targets.
-use crate::show::zero_u32;
 use case_text::column;
 use case_text::form;
+use case_text::zero::zero_u32;
 use rules::Label;
 use rules::ObjectEdges;
 use rules::Span;

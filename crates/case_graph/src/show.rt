@@ -3,6 +3,9 @@ use crate::answers;
 use crate::case::Numbers;
 use case_text::column;
 use case_text::form;
+use case_text::zero::zero_u16;
+use case_text::zero::zero_u32;
+use case_text::zero::zero_u64;
 use rules::Counts;
 
 // Document 01's numbers.
@@ -52,40 +55,6 @@ fn account_of(account: [[u64; 3]; 4]) {
     kind(b", static", account[2]);
     kind(b", loader", account[3]);
     print::word(b"\n");
-}
-
-// Whether a column is zero, and so was all before it.
-fn zero_u16(before: bool, xs: &[u16]) -> bool {
-    let mut i = 0;
-    while i < xs.len() {
-        if xs[i] != 0 {
-            return false;
-        }
-        i += 1;
-    }
-    before
-}
-
-pub(crate) fn zero_u32(before: bool, xs: &[u32]) -> bool {
-    let mut i = 0;
-    while i < xs.len() {
-        if xs[i] != 0 {
-            return false;
-        }
-        i += 1;
-    }
-    before
-}
-
-fn zero_u64(before: bool, xs: &[u64]) -> bool {
-    let mut i = 0;
-    while i < xs.len() {
-        if xs[i] != 0 {
-            return false;
-        }
-        i += 1;
-    }
-    before
 }
 
 // Whether nothing is left of the edges,

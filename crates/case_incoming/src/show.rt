@@ -1,6 +1,9 @@
 // What is written of the columns: each whole, or the refusal and whether it left all of them zero.
 use case_text::column;
 use case_text::form;
+use case_text::zero::zero_u16;
+use case_text::zero::zero_u32;
+use case_text::zero::zero_u64;
 
 fn done(says: [u64; 4]) {
     form::fill(b"  incoming: entries #, long #\n", &[says[2], says[3]]);
@@ -19,40 +22,7 @@ fn left(zero: bool) {
     }
 }
 
-// Whether a column is zero, and so was all before it.
-fn zero_u16(before: bool, xs: &[u16]) -> bool {
-    let mut i = 0;
-    while i < xs.len() {
-        if xs[i] != 0 {
-            return false;
-        }
-        i += 1;
-    }
-    before
-}
-
-fn zero_u32(before: bool, xs: &[u32]) -> bool {
-    let mut i = 0;
-    while i < xs.len() {
-        if xs[i] != 0 {
-            return false;
-        }
-        i += 1;
-    }
-    before
-}
-
-fn zero_u64(before: bool, xs: &[u64]) -> bool {
-    let mut i = 0;
-    while i < xs.len() {
-        if xs[i] != 0 {
-            return false;
-        }
-        i += 1;
-    }
-    before
-}
-
+// Whether all columns are zero.
 fn zero(
     sources: &[u32],
     places: &[u32],

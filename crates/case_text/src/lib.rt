@@ -6,3 +6,4 @@ pub mod fault;
 pub mod form;
 pub mod lists;
 pub mod text;
+pub mod zero;

@@ -1,7 +1,5 @@
 //! Times of both sides in one process, on one thread, by turns: CPU time of the process, least and median of several runs. The original has no
 //! incoming side, so inverting a graph is timed against a plain counting sort of its edges.
-use std::ops::AddAssign;
-
 use yokefathom::Graph;
 use yokefathom::compare::IncomingRoom;
 
@@ -196,34 +194,28 @@ pub fn run(objects: u64) {
     }
 }
 
-/// A number that counts entries.
-trait Count: Copy + From<u8> + AddAssign + TryInto<usize> {}
-
-impl Count for u32 {}
-impl Count for u64 {}
-
 /// What a plain counting sort of the edges by their targets fills: where the entries of each object begin, who refers, and the places.
-struct Sorted<T> {
-    begins: Vec<T>,
+struct Sorted {
+    begins: Vec<u64>,
     sources: Vec<u32>,
     places: Vec<u32>,
 }
 
-impl<T: Count> Sorted<T> {
-    /// Columns for so many objects and edges, every page of them written to.
-    fn with_room(objects: usize, edges: usize) -> Sorted<T> {
-        Sorted { begins: vec![T::from(9); objects + 1], sources: vec![9; edges], places: vec![9; edges] }
+impl Sorted {
+    /// Columns for so many objects and edges, every page of them written to. The counts are as wide as the working offsets that M-103 names.
+    fn with_room(objects: usize, edges: usize) -> Sorted {
+        Sorted { begins: vec![9; objects + 1], sources: vec![9; edges], places: vec![9; edges] }
     }
 
     /// Counts the targets, each behind its own place. Sums them up, so that there stands where its entries begin. Lays each edge there and
     /// raises the number, so that at last it stands where it belongs. Nothing is checked, no label is read, and no offset is coded.
     fn sort(&mut self, offsets: &[u64], targets: &[u32]) {
         let (begins, sources, places) = (&mut self.begins[..], &mut self.sources[..], &mut self.places[..]);
-        begins.fill(T::from(0));
+        begins.fill(0);
         for &target in targets {
-            begins[target as usize + 1] += T::from(1);
+            begins[target as usize + 1] += 1;
         }
-        let mut sum = T::from(0);
+        let mut sum = 0;
         for count in &mut begins[1..] {
             let begin = sum;
             sum += *count;
@@ -233,8 +225,8 @@ impl<T: Count> Sorted<T> {
             let span = span[0] as usize..span[1] as usize;
             for (place, &target) in span.clone().zip(&targets[span]) {
                 let next = &mut begins[target as usize + 1];
-                let Ok(at) = (*next).try_into() else { unreachable!("a place in memory") };
-                *next += T::from(1);
+                let at = *next as usize;
+                *next += 1;
                 sources[at] = object as u32;
                 places[at] = place as u32;
             }
@@ -256,9 +248,10 @@ fn spoiled(graph: &Graph) -> IncomingRoom {
 }
 
 /// Inverting a graph and sorting its edges plainly, by turns, into columns that both were lent before.
-fn inverted<T: Count>(what: &str, graph: &Graph) {
+fn incoming(objects: u64, near: bool) {
+    let graph = Graph::build(&case(objects, near).input(Route::Copied)).expect("a graph");
     let (columns, offsets): (_, Vec<u64>) = (graph.columns(), graph.offsets().collect());
-    let (mut room, mut sorted) = (spoiled(graph), Sorted::<T>::with_room(graph.object_count(), graph.all_targets().len()));
+    let (mut room, mut sorted) = (spoiled(&graph), Sorted::with_room(graph.object_count(), graph.all_targets().len()));
     let (mut our_times, mut their_times) = (Vec::new(), Vec::new());
     for _ in 0..RUNS {
         let answer = timed(&mut our_times, || room.invert(&columns));
@@ -269,21 +262,14 @@ fn inverted<T: Count>(what: &str, graph: &Graph) {
     let ((our_least, our_median), (their_least, their_median)) = (ends(&mut our_times), ends(&mut their_times));
     let edge = |least: f64| least * 1e6 / graph.edge_count() as f64;
     println!(
-        "| {what} | {} | {our_least:.2} | {our_median:.2} | {:.1} | {their_least:.2} | {their_median:.2} | {:.1} | {:.2} | {:.2} |",
+        "| {objects} objects, targets {} | {} | {our_least:.2} | {our_median:.2} | {:.1} | {their_least:.2} | {their_median:.2} | {:.1} | {:.2} | {:.2} |",
+        if near { "near" } else { "at random" },
         graph.edge_count(),
         edge(our_least),
         edge(their_least),
         our_least / their_least,
         our_median / their_median
     );
-}
-
-/// The plain sort counts in 64 bits, as ours does, and once more in 32, which take half the memory.
-fn incoming(objects: u64, near: bool) {
-    let graph = Graph::build(&case(objects, near).input(Route::Copied)).expect("a graph");
-    let targets = if near { "near" } else { "at random" };
-    inverted::<u64>(&format!("{objects} objects, targets {targets}, counts of 64 bits"), &graph);
-    inverted::<u32>(&format!("{objects} objects, targets {targets}, counts of 32 bits"), &graph);
 }
 
 /// The sizes of `growth`: each twice the one before.
