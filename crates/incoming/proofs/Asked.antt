@@ -2,31 +2,30 @@
 use Prim.Native.Nat.{ℕ, suc, _+_, _-_, _≤_, _<_, min}
 use native.Mathlib.Numerals.{add-one}
 use native.Mathlib.Omega.{arith}
-use mathlib.Core.Path.{_≡_, refl, sym, ap, ap₂, _∙_}
+use mathlib.Core.Path.{_≡_, sym, ap, ap₂, _∙_}
 use mathlib.Core.Logic.{_⊎_, inl, inr}
-use mathlib.Core.Bool.{Bool, true, false, cond}
+use mathlib.Core.Bool.{cond}
 use mathlib.Core.List.{List, [], _∷_, map, map-map}
-use lib.Dec.{leb, ltb}
+use lib.Dec.{ltb}
 use lib.ListN.{length}
 use borrow.Author.Tests.{lt-ltb, le-ltb, le-leb}
-use Rattle.columns.specs.Lists.{_!_, collect, total, part, allOf}
+use Rattle.columns.specs.Lists.{_!_, total, part, allOf}
 use Rattle.columns.specs.Columns.{accepts}
 use Rattle.columns.proofs.Lists.{lt-or-ge, tab-length, tab-at}
 use Rattle.columns.proofs.Sums.{collect-ext, total-ext, total-le-total, part-at, part-collect}
 use Rattle.store.specs.Blocked.{blocked, readBack, aboveAt}
 use Rattle.store.proofs.Theorems.{reads-back}
 use Rattle.store.proofs.Verdict.{climbs-high}
-use Rattle.rules.specs.Edges.{Edge}
-use Rattle.rules.specs.Questions.{Columns, objectsIn, offsetAt, edgesIn, edgesRead, plainly}
-use Rattle.rules.specs.Incoming.{edgeTotal, placesTo, sourcesIn, placesIn, inOffset, inOffsets, Incoming, incomingOf, Spanned, edgeTargets, placesAt}
+use Rattle.rules.specs.Questions.{Columns, objectsIn, offsetAt, edgesRead}
+use Rattle.rules.specs.Incoming.{edgeTotal, sourcesIn, placesIn, inOffset, inOffsets, Incoming, incomingOf, Spanned, edgeTargets, placesAt}
 use Rattle.rules.specs.Incoming.{holderObjects, holderPlaces}
-use Rattle.rules.proofs.Incoming.{Source, entry-source, sources-length, offsets-length, entries-total, edge-total, sources-total, places-total}
+use Rattle.rules.proofs.Incoming.{entry-source, sources-length, offsets-length, entries-total, edge-total, sources-total, places-total}
 use Rattle.rules.proofs.Holders.{to-read}
-use Rattle.ask_span.specs.Reading.{spanOf, ended, countOf, spanPart}
+use Rattle.ask_span.specs.Reading.{spanOf, ended, spanPart}
 use Rattle.ask_span.proofs.Spans.{part-is}
 use Rattle.incoming_ask.specs.Entries.{inSpan, inObjects, entryIn, entryOf}
-use Rattle.incoming_ask.proofs.Entries.{no-entry, is-entry, entry-spanned, entry-refused}
-use Rattle.incoming.specs.Held.{holderAt, heldBefore, Held}
+use Rattle.incoming_ask.proofs.Entries.{no-entry, is-entry, entry-spanned}
+use Rattle.incoming.specs.Held.{holderAt}
 use Rattle.incoming.proofs.Whole.{offsets-climb}
 
 -- the entries of t by the edges read

@@ -4,14 +4,13 @@ use Prim.Native.Nat.{ℕ, suc, _+_, _-_, _≤_, _<_}
 use native.Mathlib.Omega.{arith}
 use mathlib.Core.Path.{_≡_, refl, sym, ap, ap₂, _∙_}
 use mathlib.Core.Logic.{_⊎_, inl, inr}
-use mathlib.Core.Bool.{Bool, true, false, cond}
+use mathlib.Core.Bool.{true, false}
 use mathlib.Core.List.{List, [], _∷_, map}
-use lib.Dec.{eqb, ltb}
+use lib.Dec.{eqb}
 use lib.ListN.{length}
 use borrow.Author.Tests.{lt-ltb, le-ltb}
-use Rattle.columns.specs.Lists.{_!_, total, one, count}
+use Rattle.columns.specs.Lists.{_!_, one, count}
 use Rattle.columns.specs.Columns.{accepts}
-use Rattle.columns.specs.Ranks.{Rises}
 use Rattle.columns.proofs.Lists.{lt-or-ge, tab-length, tab-at}
 use Rattle.columns.proofs.Sums.{collect-ext, total-ext, map-tab}
 use Rattle.rules.specs.Input.{Input, Schema, objectCount}
@@ -32,7 +31,7 @@ use Rattle.rules.proofs.Incoming.{can-spanned, invert-read, used-incoming, entr
 use Rattle.rules.proofs.Holders.{objects-built, offset-built, built-none, kept-none, only-room, no-entries, holders-weak}
 use Rattle.ask_span.specs.Graph.{strong}
 use Rattle.ask_span.specs.Reading.{countOf, spanPart}
-use Rattle.incoming_ask.specs.Entries.{inSpan, entryOf}
+use Rattle.incoming_ask.specs.Entries.{inSpan}
 use Rattle.incoming_ask.proofs.Entries.{entry-refused}
 use Rattle.incoming.specs.Held.{holderAt, heldBefore, Held, Exactly}
 use Rattle.incoming.proofs.Asked.{holder-places, holder-objects, spans, next-is, sources-part, places-part, entry-is, none-there}

@@ -6,7 +6,6 @@ use native.Mathlib.Decide.{decLt}
 use mathlib.Core.Path.{_≡_, refl, sym, ap, ap₂, _∙_}
 use mathlib.Core.Bool.{Bool, true, false, not, false≢true}
 use mathlib.Core.List.{List, [], _∷_}
-use lib.Dec.{leb}
 use lib.ListN.{length, getD}
 use borrow.Author.Tests.{lt-leb, leb-true, leb-false, le-leb}
 use Rattle.columns.specs.Lists.{_!_, places, firstPlace, any, allOf}
@@ -14,8 +13,8 @@ use Rattle.columns.proofs.Lists.{first-none}
 use Rattle.columns.proofs.Tests.{each-of, no-places}
 use Rattle.rules.specs.Labels.{Coded}
 use Rattle.rules.specs.Parts.{noObject}
-use Rattle.rules.specs.Questions.{Columns, objectsIn, offsetAt, edgesIn}
-use Rattle.rules.specs.Incoming.{canRead, Spanned}
+use Rattle.rules.specs.Questions.{Columns, objectsIn, offsetAt}
+use Rattle.rules.specs.Incoming.{Spanned}
 use Rattle.rules.proofs.Incoming.{can-spanned}
 use Rattle.inverse.specs.Inverse.{tallied, Tallied}
 use Rattle.incoming_read.specs.Unread.{firstUnread, listsRise, spanReads, codesPlain}

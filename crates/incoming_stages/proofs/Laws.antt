@@ -9,14 +9,14 @@ use lib.Dec.{leb, ltb}
 use lib.ListN.{length, take}
 use borrow.Author.Tests.{lt-ltb, le-ltb, lt-leb, leb-true, leb-false}
 use Rattle.columns.specs.Lists.{_!_, allOf, anyOf}
-use Rattle.columns.specs.Columns.{zeros, accepts, leaves, kept}
+use Rattle.columns.specs.Columns.{accepts, leaves, kept}
 use Rattle.columns.specs.Ranks.{Climbs}
 use Rattle.columns.proofs.Answers.{accepting}
 use Rattle.columns.proofs.Parts.{never-falls}
 use Rattle.columns.proofs.Tests.{each-of, no-places}
 use Rattle.columns.proofs.Written.{leaves-zeros}
 use Rattle.store.specs.declared.CodedOffsets.{CodedOffsets}
-use Rattle.store.specs.Blocked.{blocked, blocksOf, aboveAt, isLong, longRows, codedSays, codingSays, Coding, Accepted, Filled, Emptied}
+use Rattle.store.specs.Blocked.{blocksOf, aboveAt, isLong, longRows, codedSays, codingSays, Coding, Accepted, Filled, Emptied}
 use Rattle.store.specs.declared.CodedOffsets.the-variants.{Done, Room}
 use Rattle.store.proofs.Verdict.{climbs-high, coding-done, coding-refused}
 use Rattle.rules.specs.Incoming.{InRooms}

@@ -11,7 +11,7 @@ use mathlib.Core.Option.{Option, none, some}
 use lib.Dec.{eqb}
 use lib.ListN.{length, length-map}
 use borrow.Author.Tests.{eq-eqb, ne-eqb, eqb-true, eqb-false, le-leb, lt-ltb, ltb-false}
-use Rattle.columns.specs.Lists.{_!_, collect, tab, places, total, flat, sum, one, count, find, found, anyOf, allOf}
+use Rattle.columns.specs.Lists.{_!_, collect, tab, total, flat, sum, one, count, find, found, anyOf, allOf}
 use Rattle.columns.specs.Columns.{accepts}
 use Rattle.columns.proofs.Lists.{tab-length, tab-at}
 use Rattle.columns.proofs.Sums.{sum-append, sum-collect, sum-tab, sum-flat, sum-map, sum-ext, sum-add, sum-none, sum-sort, total-ext, total-none, total-pick}

@@ -1,5 +1,5 @@
 -- `incoming_stages::entries` meets its contract: by the two offsets. Assumes nothing.
-use mathlib.Core.Path.{sym, ap, _∙_}
+use mathlib.Core.Path.{_∙_}
 use Rattle.incoming_stages.specs.Stages.{entriesOf}
 use borrow.Author.Needs.{needs}
 use Rattle.incoming_stages.proofs.entries.Statement.{statement}
