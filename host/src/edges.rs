@@ -8,42 +8,49 @@ use crate::graph::{Columns, Graph};
 use crate::refusal::Refusal;
 
 /// One object's out-edges, read in place.
-#[derive(Clone, Debug)]
+#[derive(Clone, Copy, Debug)]
 pub struct Edges<'a> {
     graph: &'a Graph,
     object: u32,
-    span: Range<usize>,
+    start: usize,
+    targets: &'a [u32],
 }
 
 impl<'a> Edges<'a> {
     /// The edges of an object whose span is known.
     #[inline]
     pub(crate) fn new(graph: &'a Graph, object: u32, span: Range<usize>) -> Edges<'a> {
-        Edges { graph, object, span }
+        Edges { graph, object, start: span.start, targets: &graph.all_targets()[span] }
+    }
+
+    /// No edges: for a host that gives an object which does not exist none, and no refusal.
+    #[inline]
+    pub fn none(graph: &'a Graph) -> Edges<'a> {
+        Edges { graph, object: u32::MAX, start: 0, targets: &[] }
     }
 
     /// How many edges the object has.
     #[inline]
     pub fn len(&self) -> usize {
-        self.span.len()
+        self.targets.len()
     }
 
     /// Whether it has none.
     #[inline]
     pub fn is_empty(&self) -> bool {
-        self.span.is_empty()
+        self.targets.is_empty()
     }
 
     /// The place of the first edge in [`Graph::all_targets`].
     #[inline]
     pub(crate) fn start(&self) -> usize {
-        self.span.start
+        self.start
     }
 
     /// Every edge's target, in order: a part of [`Graph::all_targets`].
     #[inline]
     pub fn targets(&self) -> &'a [u32] {
-        &self.graph.all_targets()[self.span.clone()]
+        self.targets
     }
 
     /// Edge `k`'s field label, or just [`ARRAY_ELEMENT`] for an element.
@@ -85,7 +92,7 @@ impl<'a> Edges<'a> {
     /// `(target, label)` pairs, in order: one call reads them all.
     #[inline]
     pub fn iter(&self) -> Pairs<'a> {
-        Pairs::of(self.clone())
+        Pairs::of(*self)
     }
 
     /// `(target, label)` pairs with every element's label just [`ARRAY_ELEMENT`]: all other labels are below it.

@@ -199,11 +199,7 @@ impl Graph {
 
     /// Where each object's edges start, then the total.
     pub fn offsets(&self) -> impl ExactSizeIterator<Item = u64> + '_ {
-        let objects = self.object_count();
-        (0..self.short.len()).map(move |i| match i < objects {
-            true => self.span(i as u32).expect("an object").start as u64,
-            false => self.edge_count(),
-        })
+        (0..self.short.len() as u32).map(|object| self.span(object).map_or(self.edge_count(), |span| span.start as u64))
     }
 
     /// The same graph with an account of zeros, as [`Graph::from_parts`] gives it.

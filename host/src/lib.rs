@@ -42,6 +42,7 @@ mod incoming;
 mod input;
 mod refusal;
 mod room;
+mod tables;
 mod whole;
 
 pub use account::{Account, Outcomes};
@@ -50,6 +51,7 @@ pub use graph::{Columns, Graph};
 pub use incoming::{Incoming, IncomingColumns, Referrer, Referrers};
 pub use input::{Classes, Input, Objects, Parts, ReferencePolicy, References, Schema, SlotColumns, SlotRow, Slots, Statics};
 pub use refusal::Refusal;
+pub use tables::Tables;
 
 /// What the comparison with the original tries beyond a host's needs: calls that write into columns of its own, and whole questions.
 #[cfg(feature = "compare")]

@@ -1,4 +1,5 @@
 //! The declarations of `src/ffi.rs` are the signatures of the Rattle functions, word for word, and a row that is lent has their fields.
+//! `yokefathom.h` has the same calls for C: `YOKEFATHOM_HEADER=write cargo test --test signatures` writes it anew.
 use std::collections::BTreeMap;
 use std::fs;
 use std::path::Path;
@@ -59,6 +60,84 @@ fn a_slot_row_has_the_same_fields() {
     let lent = row_fields(&host.join("src/input.rs"));
     assert_eq!(lent, ["pub offset: u32,", "pub label: u32,", "pub weak: u8,"]);
     assert_eq!(lent, row_fields(&host.join("../crates/slot_rows/src/lib.rt")));
+}
+
+/// A Rattle type of one number, or a row, in C.
+fn c_type(name: &str) -> &str {
+    match name {
+        "u8" => "uint8_t",
+        "u16" => "uint16_t",
+        "u32" => "uint32_t",
+        "u64" => "uint64_t",
+        "usize" => "size_t",
+        "bool" => "bool",
+        "SlotRow" => "struct yokefathom_slot_row",
+        other => panic!("{other} has no C type"),
+    }
+}
+
+/// A parameter in C: a column is a pointer and a length, a table of fixed size an array.
+fn c_parameter(parameter: &str) -> String {
+    let (name, of) = parameter.split_once(": ").expect("a name and a type");
+    let pointer = if name == "short" { "short_" } else { name };
+    let (lent, constant) = (of.strip_prefix("&mut "), of.strip_prefix('&'));
+    match (lent, constant) {
+        (Some("[[u64; 3]; 4]"), _) => format!("uint64_t {pointer}[4][3]"),
+        (Some(table), _) if table.contains(';') => {
+            let (entry, count) = table.trim_matches(['[', ']']).split_once("; ").expect("a table");
+            format!("{} {pointer}[{count}]", c_type(entry))
+        }
+        (Some(column), _) => format!("{} *{pointer}, size_t {name}_len", c_type(column.trim_matches(['[', ']']))),
+        (None, Some(column)) => format!("const {} *{pointer}, size_t {name}_len", c_type(column.trim_matches(['[', ']']))),
+        (None, None) => format!("{} {pointer}", c_type(of)),
+    }
+}
+
+/// What `src/ffi.rs` declares, as C declarations in its order, each below its comment.
+fn c_declarations(text: &str) -> String {
+    let (_, calls) = text.split_once("\ncalls! {").expect("the calls");
+    let mut out = String::new();
+    for part in calls.split("    ///").skip(1) {
+        let (comment, call) = part.split_once("\n").expect("a comment and a call");
+        let (name, rest) = call.trim().strip_prefix("pub extern \"C\" fn ").expect("a call").split_once('(').expect("parameters");
+        let (parameters, rest) = rest.split_once("\n    )").expect("the end of the parameters");
+        let result = rest.trim().strip_prefix("-> ").map_or("void", |result| c_type(result.split_whitespace().next().expect("a type")));
+        let parameters: Vec<String> = parameters.trim().trim_end_matches(',').split(",\n").map(|one| c_parameter(one.trim())).collect();
+        out += &format!("\n/*{comment} */\n{result} {name}(\n    {});\n", parameters.join(",\n    "));
+    }
+    out
+}
+
+#[test]
+fn the_header_declares_the_same_calls() {
+    let host = Path::new(env!("CARGO_MANIFEST_DIR"));
+    let (path, declared) = (host.join("yokefathom.h"), c_declarations(&text(&host.join("src/ffi.rs"))));
+    let header = text(&path);
+    let (begin, end) = ("/* The calls, as `src/ffi.rs` declares them. */\n", "\n#ifdef __cplusplus\n}");
+    let (top, rest) = header.split_once(begin).expect("where the calls begin");
+    let (written, bottom) = rest.split_once(end).expect("where the calls end");
+    if std::env::var_os("YOKEFATHOM_HEADER").is_some() {
+        fs::write(&path, [top, begin, &declared, end, bottom].concat()).expect("the header");
+    } else {
+        assert_eq!(written, declared);
+    }
+    assert_eq!(declared.matches("\n/*").count(), read(&host.join("src/ffi.rs")).len(), "each call once");
+}
+
+#[test]
+fn the_header_says_the_same_numbers() {
+    let header = text(&Path::new(env!("CARGO_MANIFEST_DIR")).join("yokefathom.h"));
+    for (name, value) in [("ARRAY_ELEMENT", yokefathom::ARRAY_ELEMENT), ("LOADER", yokefathom::LOADER)] {
+        assert!(header.contains(&format!("#define YOKEFATHOM_{name} UINT32_C({value})\n")), "{name}");
+    }
+    use yokefathom::Refusal::*;
+    let parts = Parts { column: 0, position: 0 };
+    for refusal in [Lengths, Limit, Object(0), Class(0), Copied(0), Span(0), Root(0), Places, Room(0), parts, Index(0), Columns(0)] {
+        assert!(header.contains(&format!("    YOKEFATHOM_{} = {},\n", refusal.name(), refusal.number())), "{refusal}");
+    }
+    let (_, row) = header.split_once("struct yokefathom_slot_row {").expect("a slot row");
+    let fields: Vec<&str> = row.split_once("};").expect("its end").0.lines().map(str::trim).filter(|line| !line.is_empty()).collect();
+    assert_eq!(fields, ["uint32_t offset;", "uint32_t label;", "uint8_t weak;"]);
 }
 
 #[test]

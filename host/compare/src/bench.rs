@@ -4,11 +4,12 @@ use yokefathom::Graph;
 use yokefathom::compare::IncomingRoom;
 
 use crate::case::{Case, ROUTES, Route};
+use crate::dropin;
 use crate::memory::{self, Side};
 use crate::oracle;
 use crate::random::Random;
 
-const RUNS: usize = 7;
+pub const RUNS: usize = 7;
 
 /// CPU seconds of this process, from the system.
 fn cpu() -> f64 {
@@ -92,15 +93,26 @@ pub fn case(objects: u64, near: bool) -> Case {
     case
 }
 
-/// One question, asked by turns on both sides as a Rust program asks it: the original's is compiled into the loop, ours is called.
-fn question(what: &str, asked: &[(u32, u32)], ours: impl Fn(u32, u32) -> u64, theirs: impl Fn(u32, u32) -> u64) {
+/// Where the targets lie, in words.
+pub fn lie(near: bool) -> &'static str {
+    if near { "near" } else { "at random" }
+}
+
+/// The same work on both sides by turns; both come to the same number.
+pub fn by_turns(what: &str, runs: usize, ours: impl Fn() -> u64, theirs: impl Fn() -> u64) {
     let (mut our_times, mut their_times) = (Vec::new(), Vec::new());
-    for _ in 0..RUNS {
-        let a: u64 = timed(&mut our_times, || asked.iter().map(|&(object, of)| ours(object, of)).sum());
-        let b: u64 = timed(&mut their_times, || asked.iter().map(|&(object, of)| theirs(object, of)).sum());
+    for _ in 0..runs {
+        let (a, b) = (timed(&mut our_times, &ours), timed(&mut their_times, &theirs));
         assert_eq!(a, b, "{what}");
     }
-    line(&format!("{what}, {} objects", asked.len()), &mut our_times, &mut their_times);
+    line(what, &mut our_times, &mut their_times);
+}
+
+/// One question, asked by turns on both sides as a Rust program asks it: the original's is compiled into the loop, ours is called.
+fn question(what: &str, asked: &[(u32, u32)], ours: impl Fn(u32, u32) -> u64, theirs: impl Fn(u32, u32) -> u64) {
+    let (ours, theirs) =
+        (|| asked.iter().map(|&(object, of)| ours(object, of)).sum(), || asked.iter().map(|&(object, of)| theirs(object, of)).sum());
+    by_turns(&format!("{what}, {} objects", asked.len()), RUNS, ours, theirs);
 }
 
 /// Edges taken one by one, as a `for` loop takes them.
@@ -160,7 +172,7 @@ fn builds(case: &Case, route: Route, runs: usize) -> (Vec<f64>, Vec<f64>, Graph,
     for _ in 0..runs {
         let ours = timed(&mut our_times, || Graph::build(&case.input(route)).expect("a graph"));
         let references = (route == Route::Copied).then(|| oracle::references(case));
-        let theirs = timed(&mut their_times, || ready.build(references));
+        let theirs = timed(&mut their_times, || ready.build(references).expect("a graph"));
         assert_eq!(ours.all_targets(), theirs.all_targets());
         graphs = Some((ours, theirs));
     }
@@ -176,7 +188,7 @@ pub fn run(objects: u64) {
         let case = case(objects, near);
         for route in ROUTES {
             let (mut our_times, mut their_times, ours, theirs) = builds(&case, route, RUNS);
-            let targets = if near { "near" } else { "at random" };
+            let targets = lie(near);
             let what = format!("build {route:?}, {objects} objects, {} references, targets {targets}", case.codes.len());
             line(&what, &mut our_times, &mut their_times);
             if route == Route::Copied {
@@ -191,6 +203,12 @@ pub fn run(objects: u64) {
     println!("|---|---|---|---|---|---|---|---|---|---|");
     for near in [false, true] {
         incoming(objects, near);
+    }
+    println!();
+    println!("| His files | over ours, least ms | median | over his, least ms | median | ratio of least | of medians |");
+    println!("|---|---|---|---|---|---|---|");
+    for near in [false, true] {
+        dropin::times(objects, near);
     }
 }
 
@@ -263,7 +281,7 @@ fn incoming(objects: u64, near: bool) {
     let edge = |least: f64| least * 1e6 / graph.edge_count() as f64;
     println!(
         "| {objects} objects, targets {} | {} | {our_least:.2} | {our_median:.2} | {:.1} | {their_least:.2} | {their_median:.2} | {:.1} | {:.2} | {:.2} |",
-        if near { "near" } else { "at random" },
+        lie(near),
         graph.edge_count(),
         edge(our_least),
         edge(their_least),
@@ -302,6 +320,6 @@ fn grown(objects: u64, route: Route, near: bool) {
         format!("{least:.1} | {median:.1} | {:.1} | {peak}", least * 1e6 / references as f64)
     };
     let (ours, theirs) = (side(&mut our_times, Side::Ours), side(&mut their_times, Side::Original));
-    let targets = if near { "near" } else { "at random" };
+    let targets = lie(near);
     println!("| {route:?}, targets {targets} | {objects} | {references} | {ours} | {theirs} |");
 }

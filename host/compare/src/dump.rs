@@ -1,15 +1,12 @@
 //! A real dump on both sides: its columns come through the original's own index pass, and both build it by both routes under all four policies.
 use std::collections::HashMap;
 use std::io;
-use std::path::{Path, PathBuf};
-use std::sync::Arc;
+use std::path::Path;
 
 use midden::dump::{Dump, Kind};
 use midden::graph as original;
-use midden::hprof::{self, Body, Reader, Sink, View};
-use midden::index::Indexer;
-use midden::sizes::SizeMode;
-use midden::source::{Progress, Source};
+use midden::hprof::{self, Body, Reader, Sink};
+use midden::source::Source;
 use yokefathom::{ARRAY_ELEMENT, Graph, LOADER};
 
 use crate::case::{Case, ROUTES, Route};
@@ -82,17 +79,12 @@ fn objects(dump: &Dump, bodies: Bodies, case: &mut Case) {
 }
 
 fn import(path: &str) -> Result<Imported, Box<dyn std::error::Error>> {
-    let view = View::file(Path::new(path))?;
-    let (mut reader, header) = Reader::open_view(&view)?;
-    let id_size = header.id_size;
-    let mut indexer = Indexer::new(id_size);
-    let walked = hprof::walk(&mut reader, &mut indexer, false)?;
-    let (dump, references) = indexer.finish(path, &reader, header, walked, SizeMode::Mat)?;
+    let (dump, references, source) = oracle::index(path)?;
     let references = references.ok_or("a class dump comes late in this file: the original copies no ids of it")?;
     let mut bodies = Bodies::default();
-    let (mut reader, _) = Reader::open_view(&view)?;
+    let (mut reader, _) = Reader::open(Path::new(path))?;
     hprof::walk(&mut reader, &mut bodies, false)?;
-    let mut case = Case { id_size: id_size as usize, names: dump.names.len(), chunks: 1, ..Case::default() };
+    let mut case = Case { id_size: dump.header.id_size as usize, names: dump.names.len(), chunks: 1, ..Case::default() };
     classes(&dump, &mut case);
     objects(&dump, bodies, &mut case);
     case.roots = dump.roots.iter().map(|root| root.0).collect();
@@ -100,7 +92,6 @@ fn import(path: &str) -> Result<Imported, Box<dyn std::error::Error>> {
     case.codes = references.copied.ids.to_vec();
     case.starts = references.starts.to_vec();
     (case.escape_places, case.escape_ids) = references.copied.escapes.iter().copied().unzip();
-    let source = Source { dump: PathBuf::from(path), seekable: Some(view), id_size, progress: Arc::new(Progress::new(false)) };
     Ok(Imported { case, dump, source })
 }
 

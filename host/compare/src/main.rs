@@ -6,12 +6,17 @@
 //!     compare limits                 the limits alone
 //!     compare seconds N              all of these in part, with seeds from the clock's, for about N seconds
 //!     compare dump FILE              a real dump, through the original's own index pass
+//!     compare dropin COUNT [FIRST]   his published files over his `graph.rs` and over ours, on COUNT graphs of seeds from FIRST on (1)
+//!     compare dropin-dump FILE       the same on a real dump
 //!     compare list FOLDER            the fixed list for `crates/replay`, written behind what the folder's `stdin` and `stdout` have of their own
 //!     compare bench OBJECTS          times of both sides, and of inverting a graph against a plain sort of its edges
 //!     compare growth                 times and peak memory of both sides at four sizes
+extern crate midden;
+
 mod bench;
 mod case;
 mod check;
+mod dropin;
 mod dump;
 mod extremes;
 mod generate;
@@ -83,11 +88,12 @@ fn end(tally: &Tally, differences: u64) {
     std::process::exit(i32::from(differences > 0));
 }
 
-/// A part of every kind: the limit of places, one in 64 of the small cases, and seeds for the rest of the time, half of it for those that are mostly small.
+/// A part of every kind: the limit of places, one in 64 of the small cases, a hundred graphs under the original's other files, and seeds for the rest of
+/// the time, half of it for those that are mostly small.
 fn for_seconds(seconds: u64, tally: &mut Tally) -> u64 {
     let started = Instant::now();
     let first = SystemTime::now().duration_since(UNIX_EPOCH).expect("a clock").as_millis() as u64;
-    let mut differences = extremes::run(false, tally) + small(64, tally);
+    let mut differences = extremes::run(false, tally) + small(64, tally) + dropin::graphs(first, 100);
     let left = Duration::from_secs(seconds).saturating_sub(started.elapsed());
     for mix in [Mix::Wide, Mix::Quick] {
         let started = Instant::now();
@@ -118,6 +124,8 @@ fn main() {
         (["limits"], ..) => extremes::run(true, tally),
         (["seconds", _], Some(seconds), None) => for_seconds(seconds, tally),
         (["dump", file], ..) => dump::run(file, tally),
+        (["dropin", ..], Some(count), first) => std::process::exit(i32::from(dropin::graphs(first.unwrap_or(1), count) > 0)),
+        (["dropin-dump", file], ..) => std::process::exit(i32::from(dropin::dump(file) > 0)),
         (["list", folder], ..) => return list::write(std::path::Path::new(folder)).expect("the folder can be written to"),
         (["bench", _], Some(objects), None) => return bench::run(objects),
         (["growth"], ..) => return bench::growth(),
@@ -125,7 +133,7 @@ fn main() {
         (["peak", side, route, objects], ..) => return memory::run(side, route, objects.parse().expect("a number")),
         _ => {
             eprintln!(
-                "compare random FIRST COUNT | graphs COUNT [FIRST] | small | limits | seconds N | dump FILE | list FOLDER | bench OBJECTS | growth"
+                "compare random FIRST COUNT | graphs COUNT [FIRST] | small | limits | seconds N | dump FILE | dropin COUNT [FIRST] | dropin-dump FILE | list FOLDER | bench OBJECTS | growth"
             );
             std::process::exit(2);
         }

@@ -38,7 +38,7 @@ fn of(case: &Case, side: Side, route: Route) -> Option<u64> {
         Side::Original => {
             let ready = oracle::ready(case, route);
             let references = (route == Route::Copied).then(|| oracle::references(case));
-            rise(|| ready.build(references))
+            rise(|| ready.build(references).expect("a graph"))
         }
     }
 }

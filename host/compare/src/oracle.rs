@@ -1,19 +1,27 @@
-//! A case as the original takes it: its `Dump`, its copied references or a dump file in memory, and its graph.
-use std::path::PathBuf;
+//! A case as the original takes it: its `Dump`, its copied references or a dump file in memory, and its graph. `super::midden` is the original.
+use std::path::{Path, PathBuf};
 use std::sync::Arc;
 
-use midden::dump::{Class, Dump, FastMap, Kind, NONE, ObjectTable, Packing, RefKind, Shapes, Slot, Static, Symbols};
-use midden::graph::{self, Graph, ReferencePolicy};
-use midden::hprof::{Header, Root, RootKind, Ty, Value, View};
-use midden::index::{Copied, References};
-use midden::sizes::{SizeMode, Sizing};
-use midden::source::{Progress, Source};
-use midden::store::Column;
+use super::midden::dump::{Class, Dump, FastMap, Kind, NONE, ObjectTable, Packing, RefKind, Shapes, Slot, Static, Symbols};
+use super::midden::error::Result;
+use super::midden::graph::{self, Graph, ReferencePolicy};
+use super::midden::hprof::{self, Header, Reader, Root, RootKind, Ty, Value, View};
+use super::midden::index::{Copied, Indexer, References};
+use super::midden::sizes::{SizeMode, Sizing};
+use super::midden::source::{Progress, Source};
+use super::midden::store::Column;
 
 use crate::case::{Case, Route};
 
 fn classes(case: &Case) -> Vec<Class> {
+    let mut instances = vec![0; case.class_ids.len()];
+    for (&class, _) in case.classes.iter().zip(&case.kinds).filter(|&(_, &kind)| kind == 0) {
+        instances.get_mut(class as usize).into_iter().for_each(|count| *count += 1);
+    }
     let class = |at: usize| Class {
+        name: format!("p{}.C{at}", at % 3),
+        shallow: 16 + 8 * case.slots_of(at).len() as u32,
+        instances: instances[at],
         id: case.class_ids[at],
         loader: case.loaders[at],
         dumped: case.dumped[at] == 1,
@@ -62,7 +70,7 @@ pub fn dump(case: &Case, chunks: Vec<(u64, u64)>) -> Dump {
     let sizing = Sizing::resolve(SizeMode::Mat, id_size, 0);
     let objects = ObjectTable::from_columns(&classes, sizing, &case.ids, Shapes::new(words, packing, long));
     let root = |&object: &u32| {
-        let id = case.ids[object as usize];
+        let id = case.ids.get(object as usize).copied().unwrap_or(0);
         (object, Root { id, kind: RootKind::Unknown, thread_serial: 0, frame: u32::MAX, trace_serial: 0 })
     };
     Dump {
@@ -75,7 +83,7 @@ pub fn dump(case: &Case, chunks: Vec<(u64, u64)>) -> Dump {
         sizing,
         chunks,
         pieces: Vec::new(),
-        names: vec![String::new(); case.names],
+        names: (0..case.names).map(|at| ["referent", "next", "value"].get(at).map_or(String::new(), |name| name.to_string())).collect(),
         symbols: Symbols::default(),
         roots: case.roots.iter().map(root).collect(),
         classes,
@@ -146,7 +154,7 @@ pub fn source(seekable: Option<View>, id_size: u32) -> Source {
 
 /// A case made ready for the original, so that a build alone can be timed.
 pub struct Ready {
-    dump: Dump,
+    pub dump: Dump,
     source: Source,
     copied: bool,
     policy: ReferencePolicy,
@@ -172,15 +180,15 @@ pub fn references(case: &Case) -> References {
 }
 
 impl Ready {
-    pub fn build(&self, references: Option<References>) -> Graph {
+    pub fn build(&self, references: Option<References>) -> Result<Graph> {
         assert_eq!(self.copied, references.is_some());
-        graph::build(&self.dump, &self.source, self.policy, references).expect("a graph")
+        graph::build(&self.dump, &self.source, self.policy, references)
     }
 }
 
 pub fn build(case: &Case, route: Route) -> Graph {
     midden::parallel::set_threads(case.threads.max(1));
-    ready(case, route).build((route == Route::Copied).then(|| references(case)))
+    ready(case, route).build((route == Route::Copied).then(|| references(case))).expect("a graph")
 }
 
 /// The original's graph of plain columns.
@@ -195,4 +203,15 @@ pub fn from_parts(case: &Case, parts: &yokefathom::Parts<'_>) -> Graph {
         parts.dangling,
         parts.roots.to_vec(),
     )
+}
+
+/// A dump file through the original's own index pass: the dump, the ids that it copied, and the file.
+pub fn index(path: &str) -> std::result::Result<(Dump, Option<References>, Source), Box<dyn std::error::Error>> {
+    let view = View::file(Path::new(path))?;
+    let (mut reader, header) = Reader::open_view(&view)?;
+    let id_size = header.id_size;
+    let mut indexer = Indexer::new(id_size);
+    let walked = hprof::walk(&mut reader, &mut indexer, false)?;
+    let (dump, references) = indexer.finish(path, &reader, header, walked, SizeMode::Mat)?;
+    Ok((dump, references, source(Some(view), id_size)))
 }
