@@ -2,7 +2,7 @@
 //! of midden's own `src/graph.rs`: the same public names and signatures, over the crate `yokefathom`. A damaged dump is refused, in the
 //! library's words: name, number and place. An object that does not exist has no edges. Nothing here panics.
 
-use std::{io, ops::Range};
+use std::{io, io::Write, ops::Range};
 
 use super::dump::{Dump, Kind, NONE, RefKind};
 use super::hprof::{Body, IO_BUFFER_SIZE, Sink};
@@ -11,6 +11,7 @@ use super::source::Source;
 use super::store::Column;
 use crate::error::{Error, Result};
 pub use yokefathom::{ARRAY_ELEMENT, LOADER};
+use yokefathom::{Bodies, References as Held, SlotRow, Tables};
 
 /// Which referents count as strongly held.
 #[derive(Clone, Copy, Debug, PartialEq, Eq, Default)]
@@ -33,6 +34,8 @@ pub struct Graph {
     /// The virtual root every GC root hangs off; equals the object count.
     pub root: u32,
     proved: yokefathom::Graph,
+    /// Where each object's edges start, then the total: read back from the library once.
+    offsets: Vec<u32>,
     /// Referent edges left out of the graph proper, sorted by source.
     weak: Vec<(u32, u32)>,
     /// References to ids the dump does not contain.
@@ -43,45 +46,53 @@ pub struct Graph {
 
 /// One object's out-edges, read in place.
 #[derive(Clone, Copy)]
-pub struct Edges<'a>(yokefathom::Edges<'a>);
+pub struct Edges<'a> {
+    graph: &'a yokefathom::Graph,
+    object: u32,
+    targets: &'a [u32],
+}
 
 impl<'a> Edges<'a> {
+    fn proved(&self) -> yokefathom::Edges<'a> {
+        self.graph.edges(self.object).unwrap_or(yokefathom::Edges::none(self.graph))
+    }
+
     pub fn len(&self) -> usize {
-        self.0.len()
+        self.targets.len()
     }
 
     pub fn targets(&self) -> impl Iterator<Item = u32> + use<'a> {
-        self.0.targets().iter().copied()
+        self.targets.iter().copied()
     }
 
     pub fn labels(&self) -> impl Iterator<Item = u32> + use<'a> {
-        self.0.labels()
+        self.proved().labels()
     }
 
     /// `(target, label)` pairs.
     pub fn iter(&self) -> impl Iterator<Item = (u32, u32)> + use<'a> {
-        self.0.iter()
+        self.proved().iter()
     }
 
     /// Edge `k`'s field label, or just `ARRAY_ELEMENT` for an element; `NONE`, which is no label, past the last edge.
     pub fn coarse(&self, k: usize) -> u32 {
-        self.0.coarse(k).unwrap_or(NONE)
+        self.proved().coarse(k).unwrap_or(NONE)
     }
 
     /// `(target, label)` pairs with every element's label just `ARRAY_ELEMENT`.
     pub fn iter_coarse(&self) -> impl Iterator<Item = (u32, u32)> + use<'a> {
-        self.0.iter_coarse()
+        self.proved().iter_coarse()
     }
 
     pub fn label_of(&self, target: u32) -> Option<u32> {
-        self.0.label_of(target).unwrap_or_default()
+        self.graph.label_of(self.object, target).unwrap_or_default()
     }
 }
 
 impl Graph {
     /// Where `object`'s edges sit in [`Graph::all_targets`].
     pub fn span(&self, object: u32) -> Range<usize> {
-        self.proved.span(object).unwrap_or_default()
+        self.offsets.get(object as usize..object as usize + 2).map_or(0..0, |at| at[0] as usize..at[1] as usize)
     }
 
     /// Every edge's target, object by object.
@@ -90,7 +101,8 @@ impl Graph {
     }
 
     pub fn edges(&self, object: u32) -> Edges<'_> {
-        Edges(self.proved.edges(object).unwrap_or(yokefathom::Edges::none(&self.proved)))
+        let targets = self.proved.all_targets().get(self.span(object)).unwrap_or_default();
+        Edges { graph: &self.proved, object, targets }
     }
 
     pub fn edge_count(&self) -> u64 {
@@ -142,8 +154,9 @@ impl Graph {
     /// What the library built, or its refusal as an error.
     fn of(built: std::result::Result<yokefathom::Graph, yokefathom::Refusal>) -> Result<Graph> {
         let mut proved = built.map_err(|refusal| Error::Dump(refusal.to_string()))?;
-        let (roots, weak) = (std::mem::take(&mut proved.roots), proved.weak_edges().collect());
-        Ok(Graph { root: proved.object_count() as u32, weak, dangling: proved.dangling, roots, proved })
+        let (offsets, weak) = (proved.offsets().map(|offset| offset as u32).collect(), proved.weak_edges().collect());
+        let (root, roots) = (proved.object_count() as u32, std::mem::take(&mut proved.roots));
+        Ok(Graph { root, offsets, weak, dangling: proved.dangling, roots, proved })
     }
 
     /// The parts the cache writes.
@@ -158,7 +171,7 @@ impl Graph {
 
     /// Where each object's edges start, then the total, as the cache stores them.
     pub fn offsets(&self) -> impl ExactSizeIterator<Item = u64> + '_ {
-        self.proved.offsets()
+        self.offsets.iter().map(|&offset| offset.into())
     }
 }
 
@@ -166,34 +179,35 @@ impl Graph {
 /// read from the dump when it could not copy them.
 pub fn build(dump: &Dump, source: &Source, reference_policy: ReferencePolicy, references: Option<References>) -> Result<Graph> {
     let Some(References { copied, starts }) = references else {
-        let (bytes, starts, lengths) = &bodies(dump, source)?;
-        let id_size = dump.header.id_size as usize;
-        return resolve(dump, reference_policy, yokefathom::References::Raw { bytes, id_size, starts, lengths });
+        let (mut bodies, filler) = (Bodies::default(), || Filler { dump, bodies: Bodies::default(), next: 0 });
+        source.scan(&dump.chunks, "reading references", filler)?.into_iter().for_each(|part| bodies.append(part.bodies));
+        let (bytes, starts, lengths) = &bodies.columns(dump.objects.len());
+        return resolve(dump, reference_policy, Held::Raw { bytes, id_size: dump.header.id_size as usize, starts, lengths });
     };
     let (escape_places, escape_ids): (Vec<u64>, Vec<u64>) = copied.escapes.into_iter().unzip();
     let (codes, base, escape_places, escape_ids, starts) = (&copied.ids, copied.base, &escape_places, &escape_ids, &starts);
-    resolve(dump, reference_policy, yokefathom::References::Copied { codes, escape_places, escape_ids, base, starts })
+    resolve(dump, reference_policy, Held::Copied { codes, escape_places, escape_ids, base, starts })
 }
 
 /// The graph of what the objects hold.
-fn resolve(dump: &Dump, policy: ReferencePolicy, references: yokefathom::References<'_>) -> Result<Graph> {
+fn resolve(dump: &Dump, policy: ReferencePolicy, references: Held<'_>) -> Result<Graph> {
     let mut tables = classes(dump);
     for (at, object) in dump.objects.range(0, dump.objects.len()).enumerate() {
         tables.object(dump.objects.id(at), object.kind as u8, object.class, object.len);
     }
     let (objects, schema) = (tables.objects(), tables.schema());
-    let roots: Vec<u32> = dump.roots.iter().map(|&(object, _)| object).collect();
+    let roots: &[u32] = &dump.roots.iter().map(|&(object, _)| object).collect::<Vec<_>>();
     let policy = yokefathom::ReferencePolicy { soft: policy.soft, weak: policy.weak };
-    Graph::of(yokefathom::Graph::build(&yokefathom::Input { objects, schema, references, roots: &roots, policy }))
+    Graph::of(yokefathom::Graph::build(&yokefathom::Input { objects, schema, references, roots, policy }))
 }
 
 /// The classes of a dump, and no object yet.
-fn classes(dump: &Dump) -> yokefathom::Tables {
-    let mut tables = yokefathom::Tables::new(dump.names.len());
+fn classes(dump: &Dump) -> Tables {
+    let mut tables = Tables::new(dump.names.len());
     for class in &dump.classes {
         tables.class(class.id, class.loader, class.dumped, class.ref_kind.map_or(0, |kind| kind as u8 + 1));
         for slot in &class.slots {
-            tables.slot(yokefathom::SlotRow { offset: slot.offset, label: slot.label, weak: slot.weak.into() });
+            tables.slot(SlotRow { offset: slot.offset, label: slot.label, weak: slot.weak.into() });
         }
         for field in &class.statics {
             tables.static_field(field.name, field.ty.tag(), field.value.bits());
@@ -202,28 +216,30 @@ fn classes(dump: &Dump) -> yokefathom::Tables {
     tables
 }
 
-/// The bodies of one chunk's instances and object arrays, and whose they are: object, start, length.
-struct Bodies<'a> {
+/// The bodies of a chunk's instances and object arrays.
+struct Filler<'a> {
     dump: &'a Dump,
-    bytes: Vec<u8>,
-    rows: Vec<(u32, usize, u32)>,
+    bodies: Bodies,
+    /// One past the last record's object: records come in address order, so the next one's is usually here, or one on.
+    next: usize,
 }
 
-impl Bodies<'_> {
+impl Filler<'_> {
     /// A record's body, if the table has the object so and it has references.
     fn keep(&mut self, id: u64, kind: Kind, body: Body) -> io::Result<()> {
-        let holds = |&object: &u32| kind == Kind::ObjectArray || !self.dump.class_of(object).slots.is_empty();
-        let found = self.dump.lookup(id).filter(|&object| self.dump.objects.kind(object as usize) == kind);
-        let Some(object) = found.filter(holds) else { return Ok(()) };
-        self.rows.push((object, self.bytes.len(), u32::try_from(body.len()).unwrap_or(u32::MAX)));
-        body.chunks(IO_BUFFER_SIZE, |part| {
-            self.bytes.extend_from_slice(part);
-            Ok(())
-        })
+        let objects = &self.dump.objects;
+        let near = (self.next..objects.len().min(self.next + 2)).find(|&next| objects.id(next) == id);
+        let Some(object) = near.map(|next| next as u32).or_else(|| self.dump.lookup(id)) else { return Ok(()) };
+        self.next = object as usize + 1;
+        if objects.kind(object as usize) != kind || kind == Kind::Instance && self.dump.class_of(object).slots.is_empty() {
+            return Ok(());
+        }
+        self.bodies.begin(object, body.len());
+        body.chunks(IO_BUFFER_SIZE, |part| self.bodies.write_all(part))
     }
 }
 
-impl Sink for Bodies<'_> {
+impl Sink for Filler<'_> {
     fn instance(&mut self, id: u64, _class_id: u64, body: Body) -> io::Result<()> {
         self.keep(id, Kind::Instance, body)
     }
@@ -231,20 +247,4 @@ impl Sink for Bodies<'_> {
     fn object_array(&mut self, id: u64, _class_id: u64, _len: u32, body: Body) -> io::Result<()> {
         self.keep(id, Kind::ObjectArray, body)
     }
-}
-
-/// All bodies, one behind the other, and where each object's is. Of two records with one id the first counts, as in the index pass.
-fn bodies(dump: &Dump, source: &Source) -> Result<(Vec<u8>, Vec<u64>, Vec<u32>)> {
-    let none = || Bodies { dump, bytes: Vec::new(), rows: Vec::new() };
-    let mut all = none();
-    for chunk in source.scan(&dump.chunks, "reading references", none)? {
-        let before = all.bytes.len();
-        all.rows.extend(chunk.rows.into_iter().map(|(object, start, length)| (object, before + start, length)));
-        all.bytes.extend(chunk.bytes);
-    }
-    let (mut starts, mut lengths) = (vec![0; dump.objects.len()], vec![0; dump.objects.len()]);
-    for (object, start, length) in all.rows.into_iter().rev() {
-        (starts[object as usize], lengths[object as usize]) = (start as u64, length);
-    }
-    Ok((all.bytes, starts, lengths))
 }

@@ -51,7 +51,7 @@ pub use graph::{Columns, Graph};
 pub use incoming::{Incoming, IncomingColumns, Referrer, Referrers};
 pub use input::{Classes, Input, Objects, Parts, ReferencePolicy, References, Schema, SlotColumns, SlotRow, Slots, Statics};
 pub use refusal::Refusal;
-pub use tables::Tables;
+pub use tables::{Bodies, Tables};
 
 /// What the comparison with the original tries beyond a host's needs: calls that write into columns of its own, and whole questions.
 #[cfg(feature = "compare")]

@@ -1,5 +1,55 @@
-//! A dump's tables in columns of their own, filled row by row: for a host that has rows.
+//! A dump's tables and bodies in columns of their own, filled row by row: for a host that has rows.
+use std::io::{self, Write};
+
 use crate::input::{Classes, Objects, Schema, SlotRow, Slots, Statics};
+
+/// What objects hold, body by body, for [`References::Raw`](crate::References::Raw). Several workers can fill one each.
+#[derive(Clone, Debug, Default, PartialEq, Eq)]
+pub struct Bodies {
+    bytes: Vec<u8>,
+    rows: Vec<(u32, u64, u32)>,
+}
+
+impl Bodies {
+    /// An object's body begins, of so many bytes. What is [written](Write) next is of it.
+    #[inline]
+    pub fn begin(&mut self, object: u32, length: u64) {
+        // No length in the columns is longer: such a body is refused, SPAN.
+        self.rows.push((object, self.bytes.len() as u64, u32::try_from(length).unwrap_or(u32::MAX)));
+    }
+
+    /// Another worker's bodies, behind these.
+    pub fn append(&mut self, mut more: Bodies) {
+        let before = self.bytes.len() as u64;
+        self.rows.extend(more.rows.iter().map(|&(object, start, length)| (object, before + start, length)));
+        match self.bytes.is_empty() {
+            true => self.bytes = more.bytes,
+            false => self.bytes.append(&mut more.bytes),
+        }
+    }
+
+    /// The bytes of all bodies, and for each of so many objects where its body starts and how long it is. Of two bodies the first counts; an object
+    /// without one has an empty one. A body of an object that is none of them is left out.
+    pub fn columns(self, objects: usize) -> (Vec<u8>, Vec<u64>, Vec<u32>) {
+        let (mut starts, mut lengths) = (vec![0; objects], vec![0; objects]);
+        for (object, start, length) in self.rows.into_iter().rev().filter(|row| (row.0 as usize) < objects) {
+            (starts[object as usize], lengths[object as usize]) = (start, length);
+        }
+        (self.bytes, starts, lengths)
+    }
+}
+
+/// The next bytes of the body that was begun last.
+impl Write for Bodies {
+    #[inline]
+    fn write(&mut self, bytes: &[u8]) -> io::Result<usize> {
+        self.bytes.write(bytes)
+    }
+
+    fn flush(&mut self) -> io::Result<()> {
+        Ok(())
+    }
+}
 
 /// Objects, and classes with their slots and statics, one row at a time. Nothing is tested here: a build tests what it is lent.
 ///
@@ -101,5 +151,50 @@ impl Tables {
             statics: Statics { names: &self.static_names, types: &self.static_types, values: &self.static_values },
             names: self.names,
         }
+    }
+}
+
+#[cfg(test)]
+mod tests {
+    use super::*;
+
+    #[test]
+    fn the_first_body_of_an_object_counts() {
+        let [mut first, mut second] = [Bodies::default(), Bodies::default()];
+        let add = |bodies: &mut Bodies, object: u32, bytes: &[u8]| {
+            bodies.begin(object, bytes.len() as u64);
+            bytes.chunks(2).for_each(|part| bodies.write_all(part).expect("there is memory"));
+        };
+        add(&mut first, 2, &[1, 2, 3]);
+        add(&mut second, 0, &[4]);
+        add(&mut second, 2, &[5, 6]);
+        second.begin(7, 1 << 32);
+        let mut all = Bodies::default();
+        all.append(first);
+        all.append(second);
+        assert_eq!(all.clone().columns(3), (vec![1, 2, 3, 4, 5, 6], vec![3, 0, 0], vec![1, 0, 3]));
+        assert_eq!(all.columns(8).2, [1, 0, 3, 0, 0, 0, 0, u32::MAX]);
+    }
+
+    #[test]
+    fn rows_belong_to_the_class_before_them() {
+        let mut tables = Tables::new(9);
+        tables.class(16, 0, false, 2);
+        tables.class(24, 16, true, 0);
+        tables.slot(SlotRow { offset: 0, label: 5, weak: 1 });
+        tables.slot(SlotRow { offset: 8, label: 6, weak: 0 });
+        tables.static_field(7, 2, 16);
+        tables.class(0, 0, false, 0);
+        tables.static_field(8, 11, 3);
+        tables.object(16, 3, 0, 0);
+        let Schema { classes, slots, statics, names } = tables.schema();
+        assert_eq!((classes.ids, classes.loaders), (&[16, 24, 0][..], &[0, 16, 0][..]));
+        assert_eq!((classes.dumped, classes.kinds), (&[0, 1, 0][..], &[2, 0, 0][..]));
+        assert_eq!((classes.slot_starts, classes.slot_ends), (&[0, 0, 2][..], &[0, 2, 2][..]));
+        assert_eq!((classes.static_starts, classes.static_ends), (&[0, 0, 1][..], &[0, 1, 2][..]));
+        assert_eq!((slots.offsets, slots.labels, slots.weak), (&[0, 8][..], &[5, 6][..], &[1, 0][..]));
+        assert_eq!((statics.names, statics.types, statics.values, names), (&[7, 8][..], &[2, 11][..], &[16, 3][..], 9));
+        let objects = tables.objects();
+        assert_eq!((objects.ids, objects.kinds, objects.classes, objects.lengths), (&[16][..], &[3][..], &[0][..], &[0][..]));
     }
 }

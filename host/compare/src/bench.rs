@@ -4,12 +4,11 @@ use yokefathom::Graph;
 use yokefathom::compare::IncomingRoom;
 
 use crate::case::{Case, ROUTES, Route};
-use crate::dropin;
 use crate::memory::{self, Side};
 use crate::oracle;
 use crate::random::Random;
 
-pub const RUNS: usize = 7;
+const RUNS: usize = 7;
 
 /// CPU seconds of this process, from the system.
 fn cpu() -> f64 {
@@ -98,12 +97,13 @@ pub fn lie(near: bool) -> &'static str {
     if near { "near" } else { "at random" }
 }
 
-/// The same work on both sides by turns; both come to the same number.
+/// The same work on both sides by turns, each side first in every other; both come to the same number.
 pub fn by_turns(what: &str, runs: usize, ours: impl Fn() -> u64, theirs: impl Fn() -> u64) {
     let (mut our_times, mut their_times) = (Vec::new(), Vec::new());
-    for _ in 0..runs {
-        let (a, b) = (timed(&mut our_times, &ours), timed(&mut their_times, &theirs));
-        assert_eq!(a, b, "{what}");
+    for run in 0..runs {
+        let first = (run % 2 == 1).then(|| timed(&mut their_times, &theirs));
+        let our = timed(&mut our_times, &ours);
+        assert_eq!(our, first.unwrap_or_else(|| timed(&mut their_times, &theirs)), "{what}");
     }
     line(what, &mut our_times, &mut their_times);
 }
@@ -205,10 +205,15 @@ pub fn run(objects: u64) {
         incoming(objects, near);
     }
     println!();
+    dropin(objects);
+}
+
+/// Times of what the original's other files compute, over our `graph.rs` and over its own.
+pub fn dropin(objects: u64) {
     println!("| His files | over ours, least ms | median | over his, least ms | median | ratio of least | of medians |");
     println!("|---|---|---|---|---|---|---|");
     for near in [false, true] {
-        dropin::times(objects, near);
+        crate::dropin::times(objects, near);
     }
 }
 

@@ -2,7 +2,7 @@
 //! compute has to be the same, and a damaged dump has to be refused in our words.
 use yokefathom::{ARRAY_ELEMENT, Graph};
 
-use crate::bench::{self, RUNS};
+use crate::bench;
 use crate::case::{Case, ROUTES, Route};
 use crate::generate::{self, Mix, Shape};
 use crate::verdict;
@@ -153,6 +153,9 @@ pub fn dump(path: &str) -> u64 {
     differences
 }
 
+/// Their times differ from run to run by more than questions do: memory is asked for and given back.
+const RUNS: usize = 11;
+
 /// Times of what his files compute, over our graph and over his, by turns.
 pub fn times(objects: u64, near: bool) {
     let mut case = bench::case(objects, near);
@@ -161,8 +164,8 @@ pub fn times(objects: u64, near: bool) {
         let (our, his) = (ours::side::ready(&case, route), his::side::ready(&case, route));
         let our_graph = ours::side::graph(&our, &case, route).expect("a graph");
         let his_graph = his::side::graph(&his, &case, route).expect("a graph");
-        let our_work = ours::side::operations(&our, &our_graph, &case, route);
-        let his_work = his::side::operations(&his, &his_graph, &case, route);
+        let our_work = ours::side::operations(&our, &our_graph, &case, route, RUNS);
+        let his_work = his::side::operations(&his, &his_graph, &case, route, RUNS);
         for ((what, our_work), (_, his_work)) in our_work.iter().zip(&his_work) {
             let what = format!("{what}, {route:?}, {objects} objects, targets {}", bench::lie(near));
             bench::by_turns(&what, RUNS, our_work, his_work);

@@ -8,6 +8,7 @@
 //!     compare dump FILE              a real dump, through the original's own index pass
 //!     compare dropin COUNT [FIRST]   his published files over his `graph.rs` and over ours, on COUNT graphs of seeds from FIRST on (1)
 //!     compare dropin-dump FILE       the same on a real dump
+//!     compare dropin-bench OBJECTS   times of what these files compute over both, which `bench` prints too
 //!     compare list FOLDER            the fixed list for `crates/replay`, written behind what the folder's `stdin` and `stdout` have of their own
 //!     compare bench OBJECTS          times of both sides, and of inverting a graph against a plain sort of its edges
 //!     compare growth                 times and peak memory of both sides at four sizes
@@ -128,12 +129,13 @@ fn main() {
         (["dropin-dump", file], ..) => std::process::exit(i32::from(dropin::dump(file) > 0)),
         (["list", folder], ..) => return list::write(std::path::Path::new(folder)).expect("the folder can be written to"),
         (["bench", _], Some(objects), None) => return bench::run(objects),
+        (["dropin-bench", _], Some(objects), None) => return bench::dropin(objects),
         (["growth"], ..) => return bench::growth(),
         // What `growth` starts for itself.
         (["peak", side, route, objects], ..) => return memory::run(side, route, objects.parse().expect("a number")),
         _ => {
             eprintln!(
-                "compare random FIRST COUNT | graphs COUNT [FIRST] | small | limits | seconds N | dump FILE | dropin COUNT [FIRST] | dropin-dump FILE | list FOLDER | bench OBJECTS | growth"
+                "compare random FIRST COUNT | graphs COUNT [FIRST] | small | limits | seconds N | dump FILE | dropin COUNT [FIRST] | dropin-dump FILE | dropin-bench OBJECTS | list FOLDER | bench OBJECTS | growth"
             );
             std::process::exit(2);
         }

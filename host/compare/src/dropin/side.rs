@@ -1,4 +1,7 @@
 //! What the published files compute over a graph, by name. Compiled twice: `super::midden` is the original over its own `graph.rs`, or over ours.
+use std::cell::RefCell;
+use std::rc::Rc;
+
 use super::midden::analysis::Heap;
 use super::midden::dom::{self, DominatorTree, Reachability};
 use super::midden::dump::{Dump, FastMap, Kind};
@@ -192,22 +195,25 @@ fn copies(out: &mut Found, dump: &Dump, heap: &Heap<'_>) {
     out.add("boxed", boxed.iter().flat_map(|row| [row.class.into(), row.instances, row.distinct, row.wasted]));
 }
 
-/// What takes time, for the benchmark: each gives a number that both sides must agree on.
-pub fn operations<'a>(ready: &'a Ready, graph: &'a Graph, case: &'a Case, route: Route) -> Vec<Operation<'a>> {
+/// What takes time, for the benchmark: each gives a number that both sides must agree on. A build takes its ids with it, so there are some for each run.
+pub fn operations<'a>(ready: &'a Ready, graph: &'a Graph, case: &'a Case, route: Route, runs: usize) -> Vec<Operation<'a>> {
     parallel::set_threads(1);
     let dump = &ready.dump;
-    let (reach, tree) = (dom::reach(graph, dump), dom::dominators(graph, dump));
-    let (heap, ()) = Heap::build(dump, graph, &[], |_| ());
+    let reach = dom::reach(graph, dump);
+    let heap = Rc::new(Heap::build(dump, graph, &[], |_| ()).0);
+    let (sized, held) = (Rc::clone(&heap), Rc::clone(&heap));
+    let ids: Vec<_> = (0..runs).map(|_| (route == Route::Copied).then(|| oracle::references(case))).collect();
+    let ids = RefCell::new(ids);
     vec![
-        ("build", Box::new(move || self::graph(ready, case, route).map_or(0, |graph| graph.edge_count()))),
+        ("build", Box::new(move || ready.build(ids.borrow_mut().pop().flatten()).map_or(0, |graph| graph.edge_count()))),
         ("reachability", Box::new(move || dom::reach(graph, dump).bytes)),
         ("dominators and retained sizes", Box::new(move || wide(dom::dominators(graph, dump).idom.iter().copied()))),
-        ("the weakly held set", Box::new(move || dom::weak_only(graph, dump, &reach).bytes)),
-        ("labelled paths from the roots, 1000 objects", {
-            let heap = std::rc::Rc::new(heap);
-            Box::new(move || spread(dump, 1000).map(|object| heap.root_path(object).len() as u64).sum())
+        ("the weakly held set, 100 times", Box::new(move || (0..100).map(|_| dom::weak_only(graph, dump, &reach).bytes).sum())),
+        ("paths from the roots of 10000 objects, with labels", {
+            Box::new(move || spread(dump, 10_000).map(|object| heap.root_path(object).len() as u64).sum())
         }),
+        ("the histogram", Box::new(move || sized.histogram().iter().map(|row| row.retained).sum())),
+        ("referrers of an object", Box::new(move || held.referrers_of(dump.objects.len() as u32 / 2).len() as u64)),
         ("every label", Box::new(move || wide(graph.all_labels()))),
-        ("immediate dominators read", Box::new(move || wide(tree.idom.iter().copied()))),
     ]
 }
