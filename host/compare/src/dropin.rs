@@ -1,6 +1,6 @@
 //! The maintainer's chair: his published files, compiled once over his `graph.rs` and once over ours (`host/midden/graph.rs`). Whatever they
 //! compute has to be the same, and a damaged dump has to be refused in our words.
-use yokefathom::{ARRAY_ELEMENT, Graph};
+use yokefathom::{ARRAY_ELEMENT, Graph, Refusal};
 
 use crate::bench;
 use crate::case::{Case, ROUTES, Route};
@@ -64,6 +64,7 @@ fn compare(case: &Case, route: Route) -> Result<u64, String> {
     let (his, ours) = (his::side::ready(case, route), ours::side::ready(case, route));
     let our_graph = ours::side::graph(&ours, case, route)?;
     nothing_there(&our_graph)?;
+    bad_parts(&ours.dump, &our_graph)?;
     let our_found = ours::side::computed(&ours.dump, &our_graph, 40);
     let his_found = his::side::computed(&his.dump, &his::side::graph(&his, case, route)?, 40);
     our_found.differs(&his_found).map_or(Ok(our_found.len()), Err)
@@ -86,6 +87,39 @@ fn nothing_there(graph: &ours::midden::graph::Graph) -> Result<(), String> {
         }
     }
     Ok(())
+}
+
+/// A graph's own parts with a target that is no object: refused in our words.
+fn bad_parts(dump: &ours::midden::dump::Dump, graph: &ours::midden::graph::Graph) -> Result<(), String> {
+    let (offsets, labels): (Vec<u64>, Vec<u32>) = (graph.offsets().collect(), graph.all_labels().collect());
+    let mut targets = graph.all_targets().to_vec();
+    let Some(last) = targets.last_mut() else { return Ok(()) };
+    *last = graph.root;
+    let parts = yokefathom::Parts { offsets: &offsets, targets: &targets, labels: &labels, ..Default::default() };
+    let expected = Refusal::Parts { column: 3, position: targets.len() as u64 - 1 };
+    match ours::midden::graph::Graph::try_from_parts(dump, &parts) {
+        Err(ours::midden::error::Error::Dump(words)) if words == expected.to_string() => Ok(()),
+        Err(error) => Err(format!("bad parts: {error}")),
+        Ok(_) => Err("bad parts were taken".into()),
+    }
+}
+
+/// What a child does: parts without an offset, by the call that has no error to give.
+pub fn cache() {
+    let dump = ours::oracle::dump(&Case { id_size: 8, ..Case::default() }, Vec::new());
+    let none = || std::iter::empty::<u32>().collect();
+    ours::midden::graph::Graph::from_parts(std::iter::empty::<u64>().collect(), none(), none(), &dump, Vec::new(), 0, Vec::new());
+    println!("a graph");
+}
+
+/// Such parts end a program with our words.
+fn cache_ends() -> Result<(), String> {
+    let child = std::env::current_exe()
+        .and_then(|this| std::process::Command::new(this).arg("dropin-cache").output())
+        .map_err(|e| e.to_string())?;
+    let said = (child.status.code(), child.stdout.is_empty(), String::from_utf8_lossy(&child.stderr).into_owned());
+    let expected = (Some(1), true, format!("{}\n", Refusal::Parts { column: 1, position: 0 }));
+    if said == expected { Ok(()) } else { Err(format!("a bad cache: {said:?}, expected {expected:?}")) }
 }
 
 /// A name for a way to damage a case, the way, and the routes that read what it damages.
@@ -116,6 +150,10 @@ fn refuse(case: &Case, route: Route) -> Result<bool, String> {
 /// So many graphs of seeds from one on, and every damage of each seed's case: how many differences.
 pub fn graphs(first: u64, count: u64) -> u64 {
     let (mut built, mut numbers, mut refused, mut differences, mut seed) = (0, 0, 0, 0, first);
+    if let Err(text) = cache_ends() {
+        println!("dropin: {text}");
+        differences += 1;
+    }
     while built < count && differences == 0 {
         let case = generate::case(seed, Shape::of_seed(seed, Mix::Wide));
         for route in ROUTES.into_iter().filter(|&route| verdict::refusal(&case, route).is_none()) {

@@ -131,7 +131,8 @@ fn main() {
         (["bench", _], Some(objects), None) => return bench::run(objects),
         (["dropin-bench", _], Some(objects), None) => return bench::dropin(objects),
         (["growth"], ..) => return bench::growth(),
-        // What `growth` starts for itself.
+        // What `dropin` and `growth` start for themselves.
+        (["dropin-cache"], ..) => return dropin::cache(),
         (["peak", side, route, objects], ..) => return memory::run(side, route, objects.parse().expect("a number")),
         _ => {
             eprintln!(
