@@ -1,13 +1,13 @@
--- `ask_span::weak_referents` meets its contract: INDEX first, then the two bisections. Assumes nothing.
+-- `ask_weak::weak_referents` meets its contract: INDEX first, then the two bisections. Assumes nothing.
 use Prim.Native.Nat.{_-_, _≤_, _<_}
 use native.Mathlib.Omega.{arith}
 use borrow.Author.Tests.{lt-ltb, le-ltb, le-leb, lt-leb}
 use lib.ListN.{length}
 use Rattle.columns.specs.Lists.{allOf}
-use Rattle.ask_span.specs.Reading.{weakRowsOf}
+use Rattle.ask_weak.specs.Rows.{weakRowsOf}
 use borrow.Author.Needs.{needs}
-use Rattle.ask_span.proofs.weak_referents.Statement.{statement}
-use Rattle.ask_span.proofs.weak_referents.Tie as tie
+use Rattle.ask_weak.proofs.weak_referents.Statement.{statement}
+use Rattle.ask_weak.proofs.weak_referents.Tie as tie
 
 returns : tie.Need-returns
 unfolding weakRowsOf
