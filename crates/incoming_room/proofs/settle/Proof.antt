@@ -1,11 +1,11 @@
--- `incoming_stages::settle` meets its contract: the entries are cleared behind what the answer keeps, and the work space whole. Assumes nothing.
+-- `incoming_room::settle` meets its contract: the entries are cleared behind what the answer keeps, and the work space whole. Assumes nothing.
 use mathlib.Core.Path.{refl, ap, _∙_}
 use Prim.Native.Nat.{ℕ}
 use Rattle.columns.specs.Columns.{cleared}
 use Rattle.columns.proofs.Written.{zeroed}
 use borrow.Author.Needs.{needs}
-use Rattle.incoming_stages.proofs.settle.Statement.{statement}
-use Rattle.incoming_stages.proofs.settle.Tie as tie
+use Rattle.incoming_room.proofs.settle.Statement.{statement}
+use Rattle.incoming_room.proofs.settle.Tie as tie
 
 returns : tie.Need-returns
 returns c =

@@ -1,11 +1,11 @@
--- `incoming_stages::entries_kept` meets its contract: by the answer. Assumes nothing.
+-- `incoming_room::entries_kept` meets its contract: by the answer. Assumes nothing.
 use mathlib.Core.Path.{sym, ap}
 use Rattle.columns.specs.Columns.{accepts, kept}
 use Rattle.rules.specs.declared.Inverted.{Inverted}
 use Rattle.rules.specs.Types.{invertedSays}
 use borrow.Author.Needs.{needs}
-use Rattle.incoming_stages.proofs.entries_kept.Statement.{statement}
-use Rattle.incoming_stages.proofs.entries_kept.Tie as tie
+use Rattle.incoming_room.proofs.entries_kept.Statement.{statement}
+use Rattle.incoming_room.proofs.entries_kept.Tie as tie
 
 returns : tie.Need-returns
 unfolding kept accepts

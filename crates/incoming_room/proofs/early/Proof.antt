@@ -1,10 +1,10 @@
--- `incoming_stages::early` meets its contract: at each return the tests that led there say the answer. Assumes nothing.
+-- `incoming_room::early` meets its contract: at each return the tests that led there say the answer. Assumes nothing.
 use mathlib.Core.Path.{sym}
 use native.Mathlib.Omega.{arith}
-use Rattle.incoming_stages.proofs.Laws.{early-columns, early-sources, early-places, early-bases, early-short, early-working, early-done}
+use Rattle.incoming_room.proofs.Rooms.{early-columns, early-sources, early-places, early-bases, early-short, early-working, early-done}
 use borrow.Author.Needs.{needs}
-use Rattle.incoming_stages.proofs.early.Statement.{statement}
-use Rattle.incoming_stages.proofs.early.Tie as tie
+use Rattle.incoming_room.proofs.early.Statement.{statement}
+use Rattle.incoming_room.proofs.early.Tie as tie
 
 returns : tie.Need-returns
 returns c = sym (early-columns _ _ _ _ (omega arith))
