@@ -1,8 +1,8 @@
--- `edge_append::append::is_kept` meets its contract: by the flag. Assumes nothing.
+-- `edge_weak::is_kept` meets its contract: by the flag. Assumes nothing.
 use borrow.Author.Tests.{eq-eqb, ne-eqb}
-use Rattle.edge_append.specs.Held.{keptOf}
-use Rattle.edge_append.proofs.append.is_kept.Statement.{statement}
-use Rattle.edge_append.proofs.append.is_kept.Tie as tie
+use Rattle.edge_weak.specs.Weak.{keptOf}
+use Rattle.edge_weak.proofs.is_kept.Statement.{statement}
+use Rattle.edge_weak.proofs.is_kept.Tie as tie
 
 returns : tie.Need-returns
 unfolding keptOf

@@ -1,7 +1,7 @@
--- `edge_append::weak::close_run` meets its contract: filled, then sorted. Assumes nothing.
+-- `edge_weak::close_run` meets its contract: filled, then sorted. Assumes nothing.
 use borrow.Author.Needs.{needs}
-use Rattle.edge_append.proofs.weak.close_run.Statement.{statement}
-use Rattle.edge_append.proofs.weak.close_run.Tie as tie
+use Rattle.edge_weak.proofs.close_run.Statement.{statement}
+use Rattle.edge_weak.proofs.close_run.Tie as tie
 
 returns : tie.Need-returns
 returns c = record { objects = c .before .before .before .before .before .before .fill .ensures; sorted = c .before .before .sort-run .ensures }

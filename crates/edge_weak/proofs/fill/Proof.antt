@@ -1,13 +1,13 @@
--- `edge_append::weak::fill` meets its contract: the places up to i are filled. Assumes nothing.
+-- `edge_weak::fill` meets its contract: the places up to i are filled. Assumes nothing.
 use mathlib.Core.Path.{_≡_, ap, _∙_}
 use Prim.Native.Nat.{ℕ, _≤_, _-_}
 use native.Mathlib.Omega.{arith}
 use lib.ListN.{length, replicate}
 use lib.Seq.{sets}
-use Rattle.edge_append.proofs.Pairs.{filled-none, filled-more}
+use Rattle.edge_weak.proofs.Filled.{filled-none, filled-more}
 use borrow.Author.Needs.{needs}
-use Rattle.edge_append.proofs.weak.fill.Statement.{statement}
-use Rattle.edge_append.proofs.weak.fill.Tie as tie
+use Rattle.edge_weak.proofs.fill.Statement.{statement}
+use Rattle.edge_weak.proofs.fill.Tie as tie
 
 abbrev Inv-loop : tie.InvT-loop
 Inv-loop d₀ v from to i₀ d i = (from ≤ i) × (i ≤ to) × (length d ≡ length d₀) × (d ≡ sets d₀ from (replicate (i - from) v))
