@@ -1,12 +1,12 @@
--- `store::read::short_at` meets its contract: at each return the tests that led there say which case of `shortBack` holds. Assumes nothing.
+-- `store_read::read::short_at` meets its contract: at each return the tests that led there say which case of `shortBack` holds. Assumes nothing.
 use native.Mathlib.Omega.{arith}
 use Prim.Native.Nat.{_+_, _/_, _^_, _≤_, _<_}
 use lib.ListN.{getD}
 use borrow.Author.Tests.{lt-ltb, le-ltb}
-use Rattle.store.specs.Blocked.{shortBack}
+use Rattle.store_read.specs.Back.{shortBack}
 use borrow.Author.Needs.{needs}
-use Rattle.store.proofs.read.short_at.Statement.{statement}
-use Rattle.store.proofs.read.short_at.Tie as tie
+use Rattle.store_read.proofs.read.short_at.Statement.{statement}
+use Rattle.store_read.proofs.read.short_at.Tie as tie
 
 returns : tie.Need-returns
 unfolding shortBack

@@ -3,7 +3,7 @@ use super::CopiedId;
 ghost use mathlib.Core.Path.{_≡_};
 ghost use Prim.Native.Nat.{_+_, _-_, _*_, _<_};
 ghost use Rattle.columns.specs.Ranks.{bisect};
-ghost use Rattle.index.specs.Copied.{whole, escapeBack, idSays};
+ghost use Rattle.index_read.specs.Back.{whole, escapeBack, idSays};
 
 // An id that stands for a code that is not zero, so it may not be zero either.
 fn id_of(id: u64, i: usize) -> CopiedId

@@ -1,10 +1,10 @@
--- `index::id_at` meets its contract: at each return the tests that led there say which case of `idBack` holds. Assumes nothing.
+-- `index_read::id_at` meets its contract: at each return the tests that led there say which case of `idBack` holds. Assumes nothing.
 use mathlib.Core.Path.{_∙_}
 use borrow.Author.Tests.{lt-ltb, le-ltb, eq-eqb, ne-eqb}
-use Rattle.index.specs.Copied.{idBack}
+use Rattle.index_read.specs.Back.{idBack}
 use borrow.Author.Needs.{needs}
-use Rattle.index.proofs.id_at.Statement.{statement}
-use Rattle.index.proofs.id_at.Tie as tie
+use Rattle.index_read.proofs.id_at.Statement.{statement}
+use Rattle.index_read.proofs.id_at.Tie as tie
 
 returns : tie.Need-returns
 unfolding idBack

@@ -1,11 +1,11 @@
--- `store::offset_at` meets its contract: at each return the tests that led there say which case of `readBack` holds. Assumes nothing.
+-- `store_read::offset_at` meets its contract: at each return the tests that led there say which case of `readBack` holds. Assumes nothing.
 use mathlib.Core.Path.{_≡_, _∙_}
 use borrow.Author.Tests.{lt-ltb, le-ltb, eq-eqb, ne-eqb}
-use Rattle.store.specs.Blocked.{readBack}
+use Rattle.store_read.specs.Back.{readBack}
 use native.Mathlib.Omega.{arith}
 use borrow.Author.Needs.{needs}
-use Rattle.store.proofs.offset_at.Statement.{statement}
-use Rattle.store.proofs.offset_at.Tie as tie
+use Rattle.store_read.proofs.offset_at.Statement.{statement}
+use Rattle.store_read.proofs.offset_at.Tie as tie
 
 returns : tie.Need-returns
 unfolding readBack

@@ -1,10 +1,10 @@
--- `index::read::escape_at` meets its contract: at each return the tests that led there say which case of `escapeBack` holds. Assumes nothing.
+-- `index_read::read::escape_at` meets its contract: at each return the tests that led there say which case of `escapeBack` holds. Assumes nothing.
 use borrow.Author.Tests.{lt-ltb, le-ltb, eq-eqb, ne-eqb}
 use Rattle.columns.specs.Lists.{allOf}
-use Rattle.index.specs.Copied.{escapeBack}
+use Rattle.index_read.specs.Back.{escapeBack}
 use borrow.Author.Needs.{needs}
-use Rattle.index.proofs.read.escape_at.Statement.{statement}
-use Rattle.index.proofs.read.escape_at.Tie as tie
+use Rattle.index_read.proofs.read.escape_at.Statement.{statement}
+use Rattle.index_read.proofs.read.escape_at.Tie as tie
 
 returns : tie.Need-returns
 unfolding escapeBack allOf

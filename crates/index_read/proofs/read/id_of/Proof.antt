@@ -1,12 +1,12 @@
--- `index::read::id_of` meets its contract: by whether the id is 0. Assumes nothing.
+-- `index_read::read::id_of` meets its contract: by whether the id is 0. Assumes nothing.
 use Prim.Native.Nat.{_<_, _^_}
 use native.Mathlib.Omega.{arith}
 use borrow.Author.Tests.{eq-eqb, ne-eqb, lt-leb}
 use Rattle.columns.specs.Lists.{anyOf}
-use Rattle.index.specs.Copied.{whole}
+use Rattle.index_read.specs.Back.{whole}
 use borrow.Author.Needs.{needs}
-use Rattle.index.proofs.read.id_of.Statement.{statement}
-use Rattle.index.proofs.read.id_of.Tie as tie
+use Rattle.index_read.proofs.read.id_of.Statement.{statement}
+use Rattle.index_read.proofs.read.id_of.Tie as tie
 
 returns : tie.Need-returns
 unfolding whole anyOf

@@ -1,13 +1,13 @@
--- `index::read::inline_at` meets its contract: a sum that passes 64 bits is refused before it is made. Assumes nothing.
+-- `index_read::read::inline_at` meets its contract: a sum that passes 64 bits is refused before it is made. Assumes nothing.
 use mathlib.Core.Path.{_≡_, ap, _∙_}
 use Prim.Native.Nat.{ℕ, _+_, _-_, _*_, _^_, _≤_}
 use native.Mathlib.Omega.{arith}
 use borrow.Author.Tests.{ne-eqb, le-leb}
 use Rattle.columns.specs.Lists.{anyOf}
-use Rattle.index.specs.Copied.{whole}
+use Rattle.index_read.specs.Back.{whole}
 use borrow.Author.Needs.{needs}
-use Rattle.index.proofs.read.inline_at.Statement.{statement}
-use Rattle.index.proofs.read.inline_at.Tie as tie
+use Rattle.index_read.proofs.read.inline_at.Statement.{statement}
+use Rattle.index_read.proofs.read.inline_at.Tie as tie
 
 returns : tie.Need-returns
 unfolding whole anyOf

@@ -1,11 +1,11 @@
--- `store::read::long_at` meets its contract: at each return the tests that led there say which case of `longBack` holds. Assumes nothing.
+-- `store_read::read::long_at` meets its contract: at each return the tests that led there say which case of `longBack` holds. Assumes nothing.
 use borrow.Author.Tests.{lt-ltb, le-ltb, eq-eqb, ne-eqb}
-use Rattle.store.specs.Blocked.{longBack}
+use Rattle.store_read.specs.Back.{longBack}
 use mathlib.Core.Path.{sym, _∙_}
 use native.Mathlib.Omega.{arith}
 use borrow.Author.Needs.{needs}
-use Rattle.store.proofs.read.long_at.Statement.{statement}
-use Rattle.store.proofs.read.long_at.Tie as tie
+use Rattle.store_read.proofs.read.long_at.Statement.{statement}
+use Rattle.store_read.proofs.read.long_at.Tie as tie
 
 returns : tie.Need-returns
 unfolding longBack

@@ -2,7 +2,7 @@
 use super::Offset;
 ghost use mathlib.Core.Path.{_≡_};
 ghost use Rattle.columns.specs.Ranks.{bisect};
-ghost use Rattle.store.specs.Blocked.{longBack, shortBack, offsetSays};
+ghost use Rattle.store_read.specs.Back.{longBack, shortBack, offsetSays};
 
 pub(crate) fn long_at(long_at: &[u32], long_value: &[u64], i: usize) -> Offset
     ensures { λ r. ⌜ offsetSays r ≡ longBack (now («long_at» .entry)) (now («long_value» .entry)) i (bisect (now («long_at» .entry)) i) ⌝ }
