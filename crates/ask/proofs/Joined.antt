@@ -28,7 +28,7 @@ use Rattle.ask_span.proofs.Built.{span-built, count-built, targets-built, weak-
 use Rattle.ask_span.proofs.WeakRows.{weak-targets-built, weak-targets-kept}
 use Rattle.ask_label.proofs.Built.{coarse-built, exact-built, label-built, coarse-kept, exact-kept, label-kept}
 use Rattle.ask_field.proofs.Built.{field-built, referent-built, field-kept, referent-kept}
-use Rattle.ask_edges.specs.declared.Step.the-variants as Step
+use Rattle.ask_reader.specs.declared.Step.the-variants as Step
 use Rattle.ask_edges.proofs.InOrder.{targets-are, codes-are, edge-in-order, end-in-order}
 use Rattle.ask_edges.proofs.Built.{edges-built, edges-kept}
 use Rattle.ask_short.proofs.Whole.{span-whole, label-called}

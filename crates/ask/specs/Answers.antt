@@ -15,7 +15,7 @@ use Rattle.ask_span.specs.Reading.{spanOf, countOf, spanPart, weakRowsOf}
 use Rattle.ask_span.specs.Graph.{spanIn, strong}
 use Rattle.ask_label.specs.Labelled.{coarseAt, ExactAt, LabelTo}
 use Rattle.ask_field.specs.Sought.{fieldFound, referentFound}
-use Rattle.ask_edges.specs.declared.Step.the-variants as Step
+use Rattle.ask_reader.specs.declared.Step.the-variants as Step
 use Rattle.ask_edges.specs.Read.{standsIn}
 use Rattle.ask_edges.specs.Object.{edgesFound}
 use Rattle.ask_short.specs.Lean.{shortly, leanly, labelFound}

@@ -1,19 +1,18 @@
 -- The reader: an object's parts hold its edges in order, each with its target and its code, and then the end. Assumes nothing.
 use Prim.Native.Nat.{ℕ, _+_, _-_, _≤_, _<_}
-use mathlib.Core.Path.{_≡_, sym, ap, _∙_}
+use mathlib.Core.Path.{_≡_}
 use mathlib.Core.List.{List, [], _∷_}
 use lib.ListN.{length}
-use borrow.Author.Tests.{lt-ltb, le-ltb, lt-leb, le-leb}
+use borrow.Author.Tests.{lt-ltb, le-ltb}
 use Rattle.columns.specs.Lists.{_!_, part}
 use Rattle.columns.proofs.Sums.{part-at, part-length}
 use Rattle.rules.specs.Questions.{Columns}
-use Rattle.labels.specs.Reading.{codeBack}
 use Rattle.ask_span.specs.Reading.{spanPart}
 use Rattle.ask_span.specs.Graph.{spanIn}
 use Rattle.ask_span.proofs.Spans.{Inside, span-inside, part-is}
-use Rattle.ask_edges.specs.declared.Step.{Step}
-use Rattle.ask_edges.specs.declared.Step.the-variants as Step
-use Rattle.ask_edges.specs.Read.{stepAt, standsIn, withLabel, edgeBack}
+use Rattle.ask_reader.specs.declared.Step.{Step}
+use Rattle.ask_reader.specs.declared.Step.the-variants as Step
+use Rattle.ask_edges.specs.Read.{stepAt, standsIn}
 
 -- the parts from a up to b
 module _ (ts cs : List ℕ) (a b k : ℕ) (targeted : b ≤ length ts) (coded : b ≤ length cs) where
@@ -41,22 +40,3 @@ module _ (c : Columns) (o : ℕ) {e z : ℕ} (at : spanIn c o ≡ 0 ∷ e ∷ z 
 
   pub end-in-order : (k : ℕ) → z - e ≤ k → standsIn c o k ≡ Step.End
   end-in-order k l = rw (targets-are, codes-are) (stands-end (c .targets) (c .labels .codes) e z k (inside .targeted) (inside .coded) l)
-
--- What stands there, read: its target is no object; its label; the end.
-module _ (objects : ℕ) (f a l : List ℕ) (place n : ℕ) where
-  pub edge-out : {t c : ℕ} {s : Step} → Step.Edge t c ≡ s → objects ≤ t → [] ≡ edgeBack objects f a l place n s
-  unfolding edgeBack
-  edge-out {t} {c} q h =
-      let none : edgeBack objects f a l place n (Step.Edge t c) ≡ [] = rw (le-leb objects t h) in
-      sym none ∙ ap (edgeBack objects f a l place n) q
-
-  pub edge-is : {t c : ℕ} {s : Step} {says ls : List ℕ} → Step.Edge t c ≡ s → t < objects → ls ≡ codeBack f a l place n c → says ≡ withLabel t ls
-      → says ≡ edgeBack objects f a l place n s
-  unfolding edgeBack
-  edge-is {t} {c} q h r w =
-      let one : edgeBack objects f a l place n (Step.Edge t c) ≡ withLabel t (codeBack f a l place n c) = rw (lt-leb objects t h) in
-      w ∙ ap (withLabel t) r ∙ sym one ∙ ap (edgeBack objects f a l place n) q
-
-  pub edge-none : {s : Step} → Step.End ≡ s → [] ≡ edgeBack objects f a l place n s
-  unfolding edgeBack
-  edge-none q = ap (edgeBack objects f a l place n) q

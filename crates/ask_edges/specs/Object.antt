@@ -6,13 +6,16 @@ use mathlib.Core.List.{List, [], _∷_}
 use lib.Dec.{eqb, ltb}
 use lib.ListN.{length}
 use Rattle.columns.specs.Lists.{_!_, tab, firstPlace, anyOf}
-use Rattle.columns.specs.Columns.{over, cleared, accepts, kept}
+use Rattle.columns.specs.Columns.{over, accepts}
 use Rattle.rules.specs.Edges.{Edge}
 use Rattle.rules.specs.Labels.{Coded}
 use Rattle.rules.specs.Parts.{noObject}
 use Rattle.rules.specs.Questions.{Columns, objectsIn, intoSays, EdgesLeft, edgesInto}
 use Rattle.labels.specs.Reading.{walkBack}
 use Rattle.ask_span.specs.Graph.{spanIn}
+-- the steps that read no edge: how many edges are written, the answer, the end
+pub use Rattle.ask_reader.specs.Own.{OwnSettled}
+unfoldable pub use Rattle.ask_reader.specs.Own.{ownRoom, ownSays}
 
 -- Edge k of the object whose edges begin at e cannot be read: its target is none of so many objects, or its label cannot be read from those before it.
 unfoldable pub unread : ℕ → List ℕ → Coded → ℕ → ℕ → Bool
@@ -41,22 +44,8 @@ edgesFound c o a b =
 abbrev pub leftEdges : List ℕ → List ℕ → List ℕ → EdgesLeft
 leftEdges says targets labels = record { says = says; targets = targets; labels = labels }
 
--- The steps. How many of n edges are written: all of them, or none where a column is too short.
-unfoldable pub ownRoom : ℕ → ℕ → ℕ → ℕ
-ownRoom n a b = cond (anyOf (ltb a n ∷ ltb b n ∷ [])) 0 n
-
 -- n edges are read in order up to one that cannot be, and those that have room are written.
 pub record OwnRead (objects : ℕ) (ts : List ℕ) (d : Coded) (e n room r : ℕ) (t₀ l₀ t l : List ℕ) : Type 0 where
   pub read : r ≡ firstPlace (unread objects ts d e) n
   pub targets : t ≡ over (tab (targetMet ts e) (min r room)) t₀
   pub labels : l ≡ over (tab (labelMet d e) (min r room)) l₀
-
--- The answer of n edges, of which so many were read, in so much room.
-unfoldable pub ownSays : ℕ → ℕ → ℕ → ℕ → List ℕ
-ownSays n read room o = cond (ltb read n) (12 ∷ o ∷ []) (cond (ltb room n) (9 ∷ 23 ∷ []) (0 ∷ n ∷ []))
-
--- The end: what the answer does not keep is cleared.
-pub record OwnSettled (says says′ t₀ l₀ t l : List ℕ) : Type 0 where
-  pub answer : says′ ≡ says
-  pub targets : t ≡ cleared (kept 1 says) t₀
-  pub labels : l ≡ cleared (kept 1 says) l₀

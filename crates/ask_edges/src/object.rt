@@ -1,30 +1,19 @@
 // All edges of an object at once. The caller lends two columns and keeps no state between calls, so there is none to get wrong.
-use super::ReadEdge;
-use super::edge_at;
+use ask_reader::ReadEdge;
+use ask_reader::edge_at;
+use ask_reader::own::judge;
+use ask_reader::own::room_for;
+use ask_reader::own::settle;
 use rules::ObjectEdges;
 use rules::Span;
 ghost use mathlib.Core.Path.{_≡_};
 ghost use Prim.Native.Nat.{_-_, _≤_};
 ghost use lib.ListN.{length};
 ghost use Rattle.columns.specs.Loans.{entry, exit};
-ghost use Rattle.columns.specs.Columns.{kept};
 ghost use Rattle.rules.specs.Types.{objectEdgesSays};
 ghost use Rattle.labels.specs.Reading.{codedOf};
 ghost use Rattle.ask_span.specs.Graph.{edgeColumns};
-ghost use Rattle.ask_edges.specs.Object.{edgesFound, leftEdges, ownRoom, OwnRead, ownSays, OwnSettled};
-
-// How many of n edges are written: a column that is too short for all takes none.
-fn room_for(n: usize, a: usize, b: usize) -> usize
-    ensures { λ r. ⌜ r ≡ ownRoom n a b ⌝ }
-{
-    if a < n {
-        return 0;
-    }
-    if b < n {
-        return 0;
-    }
-    n
-}
+ghost use Rattle.ask_edges.specs.Object.{edgesFound, leftEdges, OwnRead};
 
 // Reads the edges from `start` up to `end` in order, through the reader, and writes those that have room: how many were read before one that cannot be.
 fn read_edges(
@@ -78,40 +67,6 @@ fn read_edges(
         }
     }
     k
-}
-
-// COLUMNS of an edge that cannot be read, then ROOM, then how many there are.
-fn judge(n: usize, read: usize, room: usize, object: usize) -> ObjectEdges
-    ensures { λ r. ⌜ objectEdgesSays r ≡ ownSays n read room object ⌝ }
-{
-    if read < n {
-        return ObjectEdges::Columns(object);
-    }
-    if room < n {
-        return ObjectEdges::Room(23);
-    }
-    ObjectEdges::Edges(n)
-}
-
-fn edges_kept(answer: ObjectEdges) -> usize
-    ensures { λ r. ⌜ r ≡ kept 1 (objectEdgesSays answer) ⌝ }
-{
-    match answer {
-        ObjectEdges::Edges(n) => n,
-        ObjectEdges::Room(_) => 0,
-        ObjectEdges::Index(_) => 0,
-        ObjectEdges::Columns(_) => 0,
-    }
-}
-
-// Clears the ends behind the edges that the answer keeps, which is all after a refusal.
-fn settle(answer: ObjectEdges, own_targets: &mut [u32], own_labels: &mut [u32]) -> ObjectEdges
-    ensures { λ r. ⌜ OwnSettled (objectEdgesSays answer) (objectEdgesSays r) (entry «own_targets») (entry «own_labels») (exit «own_targets») (exit «own_labels») ⌝ }
-{
-    let end = edges_kept(answer);
-    columns::zero_u32(own_targets, end);
-    columns::zero_u32(own_labels, end);
-    answer
 }
 
 // The targets and the exact labels of all edges of an object, from the front of the columns lent: how many they are. Zeros stand behind them; after a refusal

@@ -26,18 +26,7 @@ use Rattle.ask_label.specs.Labelled.{edgeAsked, orColumns, labelled, coa
 use Rattle.ask_span.proofs.Spans.{span-inside, asked-reads, span-read, span-none, span-columns}
 use Rattle.ask_span.proofs.FirstEdge.{first-edge}
 use Rattle.ask_span.proofs.Escapes.{escapes-rising, escapes-paired, edge-reads}
-
--- Which case of `edgeAsked` holds.
-pub no-edge : (a b k : ℕ) → b - a ≤ k → edgeAsked (0 ∷ a ∷ b ∷ []) k ≡ 11 ∷ k ∷ []
-unfolding edgeAsked accepts
-no-edge a b k l = rw (le-ltb k (b - a) l)
-
-pub none-at-all : (a b k : ℕ) → b ≤ a → edgeAsked (0 ∷ a ∷ b ∷ []) k ≡ 11 ∷ k ∷ []
-none-at-all a b k l = no-edge a b k (omega arith)
-
-pub has-edge : (a b k : ℕ) → k < b - a → edgeAsked (0 ∷ a ∷ b ∷ []) k ≡ 0 ∷ a ∷ b ∷ []
-unfolding edgeAsked accepts
-has-edge a b k l = rw (lt-ltb k (b - a) l)
+pub use Rattle.ask_edge.proofs.Asked.{no-edge, none-at-all, has-edge}
 
 held : (says : List ℕ) (k : ℕ) {a b : ℕ} → edgeAsked says k ≡ 0 ∷ a ∷ b ∷ [] → (says ≡ 0 ∷ a ∷ b ∷ []) × (k < b - a)
 unfolding edgeAsked accepts

@@ -2,24 +2,18 @@
 use Prim.Native.Nat.{ℕ, zero, suc, _+_, _-_, _≤_, _<_}
 use mathlib.Core.Path.{_≡_}
 use mathlib.Core.Logic.{_⊎_}
-use mathlib.Core.Bool.{Bool, true, false, cond}
+use mathlib.Core.Bool.{true, false, cond}
 use mathlib.Core.List.{List, [], _∷_}
-use lib.Dec.{eqb, ltb}
+use lib.Dec.{eqb}
 use Rattle.columns.specs.Lists.{_!_, firstPlace}
 use Rattle.columns.specs.Columns.{accepts}
 use Rattle.rules.specs.Labels.{Coded}
 use Rattle.rules.specs.Questions.{Columns}
 use Rattle.labels.specs.Reading.{coarseBack, exactBack}
 use Rattle.ask_span.specs.Graph.{spanIn}
-
--- "A query's .. edge of an object does not exist": INDEX with the edge asked.
-unfoldable pub edgeAsked : List ℕ → ℕ → List ℕ
-edgeAsked says k = cond (accepts says) (cond (ltb k (says ! 2 - says ! 1)) says (11 ∷ k ∷ [])) says
-
--- "A query meets an entry that cannot be read back": COLUMNS with the object.
-abbrev pub orColumns : ℕ → List ℕ → List ℕ
-orColumns o [] = 12 ∷ o ∷ []
-orColumns o (l ∷ ls) = 0 ∷ l ∷ []
+-- whether there is such an edge, and whether it goes to a target; a label that was read, or COLUMNS
+pub use Rattle.ask_edge.specs.Edge.{orColumns, goesTo}
+unfoldable pub use Rattle.ask_edge.specs.Edge.{edgeAsked}
 
 -- the label of an edge, where there is such an edge
 unfoldable pub labelled : List ℕ → List ℕ → ℕ → List ℕ
@@ -28,10 +22,6 @@ labelled says label o = cond (accepts says) (orColumns o label) says
 -- The coarse label of edge k: its code alone says it.
 unfoldable pub coarseAt : Columns → ℕ → ℕ → List ℕ
 coarseAt c o k = labelled (edgeAsked (spanIn c o) k) (coarseBack (c .labels) (spanIn c o ! 1 + k)) o
-
--- the edge k of the object whose edges begin at e goes to t
-abbrev pub goesTo : List ℕ → ℕ → ℕ → ℕ → Bool
-goesTo ts e t k = eqb (ts ! (e + k)) t
 
 -- Of the object whose edges begin at e: the nearest escaped element at or before edge k, or the first edge; and the label of edge k, read from there. An
 -- escape says its index by its row, so what stands before it need not be read.

@@ -6,10 +6,10 @@ use mathlib.Core.List.{List, [], _∷_, map}
 use Prim.Native.Nat.{ℕ, suc, _+_, _-_, _≤_, _<_}
 use native.Mathlib.Omega.{arith}
 use native.Mathlib.Numerals.{add-one}
-use borrow.Author.Tests.{leb-true, le-leb, lt-leb, lt-ltb, le-ltb, ltb-true, ltb-false, eqb-true, not-true, not-false}
+use borrow.Author.Tests.{leb-true, le-leb, lt-ltb, le-ltb, ltb-true, ltb-false, eqb-true, not-true, not-false}
 use lib.Dec.{ltb, leb, eqb}
 use lib.ListN.{length}
-use Rattle.columns.specs.Lists.{_!_, allOf, part}
+use Rattle.columns.specs.Lists.{_!_, allOf}
 use Rattle.columns.specs.Columns.{accepts}
 use Rattle.columns.specs.Ranks.{Climbs, rank, bisect}
 use Rattle.columns.proofs.Lists.{lt-or-ge, tab-length}
@@ -22,6 +22,8 @@ use Rattle.rules.specs.Questions.{Columns, asked, objectsIn, offsetAt, edgesIn,
 use Rattle.rules.proofs.Asked.{targets-part}
 use Rattle.rules.proofs.Weak.{Sorted, pair-climbs}
 use Rattle.ask_span.specs.Reading.{ended, spanOf, countOf, spanPart, weakRowsOf}
+-- the part that a span says, where it is one of the column's
+pub use Rattle.ask_part.proofs.Parts.{part-falls, part-past, part-is}
 
 abbrev tests : List ℕ → List ℕ → ℕ → ℕ → List Bool
 tests first next codes targets = accepts first ∷ accepts next ∷ leb (first ! 1) (next ! 1) ∷ leb (next ! 1) codes ∷ leb (next ! 1) targets ∷ []
@@ -63,19 +65,6 @@ span-exists c codes targets o {a} {b} e = go (ltb o (length (c .short) - 1)) ref
     go : (t : Bool) → ltb o (length (c .short) - 1) ≡ t → cond t (ended (readBack c o) (readBack c (o + 1)) codes targets o) (11 ∷ o ∷ []) ≡ 0 ∷ a ∷ b ∷ [] → o < length (c .short) - 1
     go true h e = ltb-true o (length (c .short) - 1) h
     go false h e = absurd (omega (arith, ap (λ (xs : List ℕ). xs ! 0) e))
-
--- the part that a span says, where it is one of the column's
-pub part-falls : (xs : List ℕ) (a b : ℕ) → b < a → spanPart (0 ∷ a ∷ b ∷ []) xs ≡ []
-unfolding spanPart accepts allOf
-part-falls xs a b l = rw (lt-leb a b l)
-
-pub part-past : (xs : List ℕ) (a b : ℕ) → a ≤ b → length xs < b → spanPart (0 ∷ a ∷ b ∷ []) xs ≡ []
-unfolding spanPart accepts allOf
-part-past xs a b h l = rw (le-leb a b h, lt-leb b (length xs) l)
-
-pub part-is : (xs : List ℕ) (a b : ℕ) → a ≤ b → b ≤ length xs → spanPart (0 ∷ a ∷ b ∷ []) xs ≡ part xs a b
-unfolding spanPart accepts allOf
-part-is xs a b h l = rw (le-leb a b h, le-leb b (length xs) l)
 
 -- An answer that is asked of an object and is not COLUMNS was asked of one that reads.
 pub asked-reads : (c : Columns) (o : ℕ) (reads : Bool) (answer says : List ℕ) → (o < objectsIn c → reads ≡ true → says ≡ answer) → (objectsIn c ≤ o → says ≡ 11 ∷ o ∷ [])

@@ -4,10 +4,12 @@ use mathlib.Core.Bool.{cond}
 use mathlib.Core.List.{List, [], _∷_}
 use lib.Dec.{ltb, leb}
 use lib.ListN.{length}
-use Rattle.columns.specs.Lists.{_!_, allOf, part}
+use Rattle.columns.specs.Lists.{_!_, allOf}
 use Rattle.columns.specs.Columns.{accepts}
-use Rattle.columns.specs.Ranks.{bisect}
 use Rattle.store.specs.Blocked.{Blocked, readBack}
+-- the part of a column that a span says, and the rows of weak pairs
+unfoldable pub use Rattle.ask_part.specs.Part.{spanPart}
+unfoldable pub use Rattle.ask_weak.specs.Rows.{weakRowsOf}
 
 -- From the two answers of reading an offset: COLUMNS where one is refused, where they fall, or where they end past codes or targets.
 unfoldable pub ended : List ℕ → List ℕ → ℕ → ℕ → ℕ → List ℕ
@@ -21,14 +23,3 @@ spanOf b codes targets o = cond (ltb o (length (b .short) - 1)) (ended (readBack
 -- how many edges a span has
 unfoldable pub countOf : List ℕ → List ℕ
 countOf says = cond (accepts says) (0 ∷ (says ! 2 - says ! 1) ∷ []) says
-
--- the part of a column that a span says; empty where the span is a refusal, or none of that column's
-unfoldable pub spanPart : List ℕ → List ℕ → List ℕ
-spanPart says xs = cond (allOf (accepts says ∷ leb (says ! 1) (says ! 2) ∷ leb (says ! 2) (length xs) ∷ [])) (part xs (says ! 1) (says ! 2)) []
-
--- INDEX of the object; then the rows of its weak pairs, which bisection finds. COLUMNS where they fall or end past the targets: then the pairs are not sorted.
-unfoldable pub weakRowsOf : ℕ → List ℕ → List ℕ → ℕ → List ℕ
-weakRowsOf short from to o =
-    cond (ltb o (short - 1))
-    (cond (allOf (leb (bisect from o) (bisect from (o + 1)) ∷ leb (bisect from (o + 1)) (length to) ∷ [])) (0 ∷ bisect from o ∷ bisect from (o + 1) ∷ []) (12 ∷ o ∷ []))
-    (11 ∷ o ∷ [])

@@ -1,7 +1,10 @@
 // The questions of `Graph` about where an object's edges and weak pairs sit: over the used parts of a graph's columns, writing nothing.
+// The parts and the weak rows are read in crates of their own, and have their names here.
+pub use ask_part::codes_of;
+pub use ask_part::targets_of;
+pub use ask_weak::weak_referents;
 use rules::EdgeCount;
 use rules::Span;
-use rules::WeakReferents;
 use store::Offset;
 ghost use mathlib.Core.Path.{_≡_};
 ghost use Prim.Native.Nat.{_<_};
@@ -10,8 +13,8 @@ ghost use lib.ListN.{length};
 ghost use Rattle.columns.specs.Loans.{entry};
 ghost use Rattle.store.specs.Blocked.{offsetSays};
 ghost use Rattle.rules.specs.Tables.{offsetColumns};
-ghost use Rattle.rules.specs.Types.{spanSays, edgeCountSays, weakSays};
-ghost use Rattle.ask_span.specs.Reading.{spanOf, ended, countOf, spanPart, weakRowsOf};
+ghost use Rattle.rules.specs.Types.{spanSays, edgeCountSays};
+ghost use Rattle.ask_span.specs.Reading.{spanOf, ended, countOf};
 
 // A span that does not fall and ends within codes and targets.
 fn within(start: u64, end: u64, codes: usize, targets: usize, object: usize) -> Span
@@ -136,70 +139,4 @@ pub fn edge_count(
         targets.len(),
         object,
     )
-}
-
-// The targets of an object, as a part of their column, by the span that `span` gave, which says whether there is such an object. Of a refusal, or of a span that
-// is none of this column's, the part is empty.
-pub fn targets_of<'a>(targets: &'a [u32], at: Span) -> &'a [u32]
-    ensures { λ r. ⌜ now r ≡ spanPart (spanSays at) (entry targets) ⌝ }
-{
-    match at {
-        Span::Edges { start, end } => {
-            if end < start {
-                return &targets[0..0];
-            }
-            if targets.len() < end {
-                return &targets[0..0];
-            }
-            &targets[start..end]
-        }
-        Span::Index(_) => &targets[0..0],
-        Span::Columns(_) => &targets[0..0],
-    }
-}
-
-// The codes of an object, as a part of their column, by the span that `span` gave, which says whether there is such an object. Of a refusal, or of a span that
-// is none of this column's, the part is empty.
-pub fn codes_of<'a>(edge_codes: &'a [u16], at: Span) -> &'a [u16]
-    ensures { λ r. ⌜ now r ≡ spanPart (spanSays at) (entry «edge_codes») ⌝ }
-{
-    match at {
-        Span::Edges { start, end } => {
-            if end < start {
-                return &edge_codes[0..0];
-            }
-            if edge_codes.len() < end {
-                return &edge_codes[0..0];
-            }
-            &edge_codes[start..end]
-        }
-        Span::Index(_) => &edge_codes[0..0],
-        Span::Columns(_) => &edge_codes[0..0],
-    }
-}
-
-// The rows of an object's weak pairs: from the first that is not before the object up to the first behind it.
-pub fn weak_referents(
-    short: &[u16],
-    weak_from: &[u32],
-    weak_to: &[u32],
-    object: usize,
-) -> WeakReferents
-    ensures { λ r. ⌜ weakSays r ≡ weakRowsOf (length (entry short)) (entry «weak_from») (entry «weak_to») object ⌝ }
-{
-    if short.len() <= object {
-        return WeakReferents::Index(object);
-    }
-    if short.len() - object < 2 {
-        return WeakReferents::Index(object);
-    }
-    let start = columns::bisect_u32(weak_from, object as u64);
-    let end = columns::bisect_u32(weak_from, object as u64 + 1);
-    if end < start {
-        return WeakReferents::Columns(object);
-    }
-    if weak_to.len() < end {
-        return WeakReferents::Columns(object);
-    }
-    WeakReferents::Rows { start, end }
 }

@@ -5,13 +5,14 @@ use native.Mathlib.Numerals.{add-one}
 use native.Mathlib.Omega.{arith}
 use mathlib.Core.Path.{_≡_, refl, sym, ap, _∙_}
 use mathlib.Core.List.{List, [], _∷_, _++_, map}
-use lib.ListN.{length, length-append, length-map, set}
-use lib.Seq.{sets, length-sets}
+use lib.ListN.{length, length-append, length-map}
+use lib.Seq.{length-sets}
 use Rattle.columns.specs.Lists.{collect, tab}
 use Rattle.columns.proofs.Sums.{flat-append, map-append, sum-append, collect-cut}
 use Rattle.rules.specs.Edges.{Ref, refEdge, refWeak, refMissing}
 use Rattle.edge_append.specs.Append.{edgesAmong, weakAmong, missingAmong, edgeTarget, edgeLabel, EdgeRoom, Appended}
 use Rattle.edge_append.specs.declared.Pass.{Pass}
+pub use Rattle.edge_weak.proofs.Filled.{sets-append}
 
 -- What two lists come to, one after the other.
 module _ (ids : List ℕ) (rs qs : List Ref) where
@@ -26,12 +27,6 @@ module _ (ids : List ℕ) (rs qs : List Ref) where
   pub missing-append : missingAmong ids (rs ++ qs) ≡ missingAmong ids rs + missingAmong ids qs
   unfolding missingAmong
   missing-append = sum-append (refMissing ids) rs qs
-
--- Writing on from where the last writing ended.
-pub sets-append : (l vs us : List ℕ) (i n : ℕ) → n ≡ length vs → sets (sets l i vs) (i + n) us ≡ sets l i (vs ++ us)
-sets-append l [] us i n e = rw (e, add-zero i)
-sets-append l (v ∷ vs) us i n e =
-    ap (λ (j : ℕ). sets (sets (set l i v) (suc i) vs) j us) (omega arith) ∙ sets-append (set l i v) vs us (suc i) (length vs) refl
 
 pub appended-none : {ids : List ℕ} {s : Pass} {ts ls ws : List ℕ} → Appended ids [] s s ts ls ws ts ls ws
 unfolding edgesAmong weakAmong missingAmong

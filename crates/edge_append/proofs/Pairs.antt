@@ -2,9 +2,9 @@
 use Prim.Native.Nat.{ℕ, _+_, _-_, _≤_}
 use native.Mathlib.Omega.{arith}
 use mathlib.Core.Path.{_≡_, refl, sym, ap, _∙_}
-use mathlib.Core.List.{List, [], _∷_, _++_, append-assoc}
+use mathlib.Core.List.{List, _++_, append-assoc}
 use lib.Dec.{leb}
-use lib.ListN.{length, length-append, set, take, drop, replicate, length-replicate, replicate-append-replicate}
+use lib.ListN.{length, length-append, take, drop, replicate}
 use lib.Seq.{sets, sets-eq, take-at, drop-at, length-take-le}
 use Rattle.columns.specs.Lists.{sort}
 use Rattle.sort.specs.Order.{sortRun}
@@ -13,23 +13,6 @@ use Rattle.rules.specs.Edges.{Ref}
 use Rattle.edge_append.specs.Append.{weakAmong, Appended}
 use Rattle.edge_append.specs.Object.{PairsSettled, Object}
 use Rattle.edge_append.specs.declared.Pass.{Pass}
-use Rattle.edge_append.proofs.Appending.{sets-append}
-
--- the number v at the places from one up to i
-pub filled-none : (d : List ℕ) (from v : ℕ) → d ≡ sets d from (replicate (from - from) v)
-filled-none d from v =
-    let z : from - from ≡ 0 = omega arith in
-    rw z
-
-pub filled-more : (d : List ℕ) (from i v : ℕ) {e : List ℕ} → from ≤ i → e ≡ sets d from (replicate (i - from) v) → set e i v ≡ sets d from (replicate (i + 1 - from) v)
-filled-more d from i v h w =
-    let n = i - from in
-    let at : i ≡ from + n = omega arith in
-    let more : i + 1 - from ≡ n + 1 = omega arith in
-    ap (λ (l : List ℕ). set l i v) w
-    ∙ ap (λ (j : ℕ). set (sets d from (replicate n v)) j v) at
-    ∙ sets-append d (replicate n v) (v ∷ []) from n (sym (length-replicate n v))
-    ∙ ap (sets d from) (replicate-append-replicate n 1 v ∙ ap (λ (m : ℕ). replicate m v) (sym more))
 
 -- What was written and is then sorted is as if it had been written sorted.
 pub run-sorted : (vs ws : List ℕ) (s : ℕ) → s + length vs ≤ length ws → sortRun (sets ws s vs) s (s + length vs) ≡ sets ws s (sort leb vs)

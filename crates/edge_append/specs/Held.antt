@@ -3,7 +3,7 @@
 -- Assumes nothing.
 use Prim.Native.Nat.{ℕ, zero, suc, _+_, _-_, _^_, _≤_, _<_}
 use mathlib.Core.Path.{_≡_}
-use mathlib.Core.Bool.{Bool, true, cond, not, _||_}
+use mathlib.Core.Bool.{Bool, true, cond}
 use mathlib.Core.List.{List, [], _∷_}
 use lib.Dec.{eqb}
 use lib.ListN.{length}
@@ -14,10 +14,8 @@ use Rattle.rules.specs.declared.ReferencePolicy.{ReferencePolicy}
 use Rattle.rules.specs.Input.{copiedId}
 use Rattle.rules.specs.Edges.{Ref}
 use Rattle.edge_append.specs.Append.{refOf}
-
--- "A slot is kept if it isn't weak or its class's kind is kept": the rule `slotKept`, law `slot-same`.
-unfoldable pub keptOf : ℕ → Bool → Bool
-keptOf weak keeps = not (eqb weak 1) || keeps
+-- whether a slot is kept
+unfoldable pub use Rattle.edge_weak.specs.Weak.{keptOf}
 
 -- the slot at a place of the slot columns, where it holds an id: the rule `slotRef`, law `slot-same`
 unfoldable pub slotWith : List ℕ → List ℕ → Bool → ℕ → ℕ → Ref

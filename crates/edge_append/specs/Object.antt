@@ -1,12 +1,11 @@
 -- What one object leaves: its edges, its weak targets sorted beside its number, its missing ids. Assumes nothing.
-use Prim.Native.Nat.{ℕ, zero, suc, _+_, _-_, _≤_}
+use Prim.Native.Nat.{ℕ, zero, suc, _+_, _≤_}
 use mathlib.Core.Path.{_≡_}
 use mathlib.Core.List.{List, [], _∷_, _++_, map}
 use lib.Dec.{leb}
 use lib.ListN.{length, replicate}
 use lib.Seq.{sets}
 use Rattle.columns.specs.Lists.{_!_, sort}
-use Rattle.sort.specs.Order.{sortRun}
 use Rattle.index.specs.Copied.{Ids}
 use Rattle.rules.specs.declared.ReferencePolicy.{ReferencePolicy}
 use Rattle.rules.specs.Input.{Input, Copied, Raw}
@@ -16,6 +15,8 @@ use Rattle.edge_append.specs.Held.{copiedSlots, copiedElements, staticsA
 use Rattle.edge_append.specs.Raw.{rawSlots, rawElements}
 use Rattle.edge_append.specs.Account.{AccountIn, accountWith}
 use Rattle.edge_append.specs.declared.Pass.{Pass}
+-- a run of the weak columns
+pub use Rattle.edge_weak.specs.Weak.{PairsSettled}
 
 -- The references of one object in their four parts, and in order.
 pub record RefParts : Type 0 where
@@ -68,11 +69,6 @@ rawPartsOf x r o mark =
     rawParts (r .bytes) (r .size) (r .starts ! o) (r .lengths ! o) (k .kinds) (k .slotStart) (k .slotEnd) (x .schema .slots .offsets) (x .schema .slots .labels)
     (x .schema .slots .weak) (x .policy) (x .objects .kinds ! o) (x .objects .classes ! o) (x .objects .lengths ! o) (k .loaders) (k .staticStart) (k .staticEnd)
     (t .names) (t .types) (t .values) mark
-
--- a run of the weak columns: the object's number at each place, and the targets sorted
-pub record PairsSettled (o from to : ℕ) (fs ws fs′ ws′ : List ℕ) : Type 0 where
-  pub objects : fs′ ≡ sets fs from (replicate (to - from) o)
-  pub sorted : ws′ ≡ sortRun ws from to
 
 -- The references of object o appended, and its weak pairs in their place: "weak pairs sort by object, then target, repeats kept".
 pub record Object (ids : List ℕ) (rs : List Ref) (o : ℕ) (s q : Pass) (ts ls fs ws ts′ ls′ fs′ ws′ : List ℕ) : Type 0 where

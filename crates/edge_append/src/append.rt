@@ -1,12 +1,13 @@
 // One reference appended: its id is looked up once, and what becomes of it is written where it finally stands, so that no hole is ever made.
 use super::Pass;
+use edge_weak::is_kept;
 ghost use mathlib.Core.Path.{_≡_};
 ghost use mathlib.Core.List.{[], _∷_};
 ghost use Prim.Native.Nat.{_^_, _<_};
 ghost use lib.ListN.{length};
 ghost use Rattle.columns.specs.Loans.{entry, exit};
 ghost use Rattle.edge_append.specs.Append.{refOf, EdgeRoom, Appended};
-ghost use Rattle.edge_append.specs.Held.{keptOf, slotWith, elementWith};
+ghost use Rattle.edge_append.specs.Held.{slotWith, elementWith};
 
 // The four kinds of references, as the rows of the account.
 pub const SLOT: usize = 0;
@@ -64,13 +65,6 @@ pub fn append(
             s
         }
     }
-}
-
-// "A slot is kept if it isn't weak or its class's kind is kept."
-fn is_kept(weak: u8, keeps: bool) -> bool
-    ensures { λ r. ⌜ r ≡ keptOf weak keeps ⌝ }
-{
-    if weak == 1 { keeps } else { true }
 }
 
 // The slot at a place of the slot columns.

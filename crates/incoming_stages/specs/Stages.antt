@@ -1,15 +1,17 @@
 -- The stages of inverting that know no entry: what each one answers and leaves. Assumes nothing.
-use Prim.Native.Nat.{ℕ, suc, _+_, _-_, _≤_}
+use Prim.Native.Nat.{ℕ, _+_, _-_, _≤_}
 use mathlib.Core.Path.{_≡_}
 use mathlib.Core.Bool.{Bool, true, cond}
 use mathlib.Core.List.{List, [], _∷_}
-use lib.Dec.{leb, ltb}
+use lib.Dec.{leb}
 use lib.ListN.{length, take}
-use Rattle.columns.specs.Lists.{_!_, allOf, anyOf}
-use Rattle.columns.specs.Columns.{zeros, cleared, accepts, leaves, kept}
+use Rattle.columns.specs.Lists.{_!_, allOf}
+use Rattle.columns.specs.Columns.{accepts, leaves}
 use Rattle.columns.specs.Ranks.{Climbs}
 use Rattle.store.specs.Blocked.{Blocked, readBack, blocked, blocksOf, codingSays}
-use Rattle.rules.specs.Incoming.{InRooms}
+-- what can be said before the entries are laid, and the end
+pub use Rattle.incoming_room.specs.Room.{lentRooms, Settled}
+unfoldable pub use Rattle.incoming_room.specs.Room.{earlySays}
 
 -- How many entries there are, one for each edge: from the first object's offset up to the last one's end. 0 where one of the two cannot be read.
 unfoldable pub betweenOf : List ℕ → List ℕ → ℕ
@@ -17,19 +19,6 @@ betweenOf first last = cond (allOf (accepts first ∷ accepts last ∷ [])) (las
 
 unfoldable pub entriesOf : Blocked → ℕ
 entriesOf b = betweenOf (readBack b 0) (readBack b (length (b .short) - 1))
-
--- the room lent but for the long rows
-abbrev pub lentRooms : ℕ → ℕ → ℕ → ℕ → ℕ → InRooms
-lentRooms sources places bases short working =
-    record { sources = sources; places = places; bases = bases; short = short; longAt = 0; longValue = 0; working = working }
-
--- What can be said before the entries are laid: COLUMNS, ROOM 10, and ROOM 11 but for the long rows; on acceptance the entries.
-unfoldable pub earlySays : ℕ → ℕ → ℕ → InRooms → List ℕ
-earlySays bad objects entries r =
-    cond (ltb bad objects) (12 ∷ bad ∷ [])
-    (cond (anyOf (ltb (r .sources) entries ∷ ltb (r .places) entries ∷ [])) (9 ∷ 10 ∷ [])
-    (cond (anyOf (ltb (r .bases) (blocksOf (suc objects)) ∷ ltb (r .short) (suc objects) ∷ ltb (r .working) (suc objects) ∷ [])) (9 ∷ 11 ∷ [])
-    (0 ∷ entries ∷ 0 ∷ [])))
 
 -- Numbers that climb, within the limit, with room for their bases and short numbers: coding can refuse their long rows alone.
 pub record Climbing (vs : List ℕ) (nb ns : ℕ) : Type 0 where
@@ -63,10 +52,3 @@ pub record CodedIn (says : List ℕ) (objects : ℕ) (w : List ℕ) (nb ns na nv
   pub short : s ≡ leaves says′ (blocked (take (objects + 1) w) .short) ns
   pub long-at : a ≡ leaves says′ (blocked (take (objects + 1) w) .longAt) na
   pub long-value : v ≡ leaves says′ (blocked (take (objects + 1) w) .longValue) nv
-
--- The end: what the answer does not keep of the entries is cleared, and so is the work space.
-pub record Settled (says says′ s₀ p₀ w₀ s p w : List ℕ) : Type 0 where
-  pub answer : says′ ≡ says
-  pub sources : s ≡ cleared (kept 1 says) s₀
-  pub places : p ≡ cleared (kept 1 says) p₀
-  pub working : w ≡ zeros (length w₀)

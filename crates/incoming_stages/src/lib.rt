@@ -1,17 +1,21 @@
 // The stages of inverting that know no entry: what has no room, the offsets coded, and the end. A stage that is handed a refusal hands it on.
+// The first and the last stand in a crate of their own, and have their names here.
+pub use incoming_room::early;
+use incoming_room::entries_kept;
+pub use incoming_room::settle;
 use rules::Inverted;
 use store::CodedOffsets;
 use store::Offset;
 ghost use mathlib.Core.Path.{_≡_};
 ghost use Prim.Native.Nat.{_+_, _-_, _<_, min};
 ghost use lib.ListN.{length};
-ghost use Rattle.columns.specs.Columns.{accepts, kept};
+ghost use Rattle.columns.specs.Columns.{accepts};
 ghost use Rattle.columns.specs.Loans.{entry, exit};
 ghost use Rattle.columns.specs.Ranks.{Climbs};
 ghost use Rattle.store.specs.Blocked.{codedSays, offsetSays, longRows, Coding};
 ghost use Rattle.rules.specs.Tables.{offsetColumns};
 ghost use Rattle.rules.specs.Types.{invertedSays};
-ghost use Rattle.incoming_stages.specs.Stages.{betweenOf, entriesOf, earlySays, lentRooms, longFits, Climbing, CodeReady, codedAs, CodedIn, Settled};
+ghost use Rattle.incoming_stages.specs.Stages.{betweenOf, entriesOf, longFits, Climbing, CodeReady, codedAs, CodedIn};
 
 // How many objects there are: one fewer than short offsets.
 pub fn objects(short: usize) -> usize
@@ -52,40 +56,6 @@ pub fn entries(bases: &[u64], short: &[u16], long_at: &[u32], long_value: &[u64]
     between(first, last)
 }
 
-// COLUMNS, ROOM 10, and ROOM 11 but for the long rows, which are not known yet.
-pub fn early(
-    bad: usize,
-    objects: usize,
-    entries: usize,
-    sources: usize,
-    places: usize,
-    bases: usize,
-    short: usize,
-    working: usize,
-) -> Inverted
-    ensures { λ r. ⌜ invertedSays r ≡ earlySays bad objects entries (lentRooms sources places bases short working) ⌝ }
-{
-    if bad < objects {
-        return Inverted::Columns(bad);
-    }
-    if sources < entries {
-        return Inverted::Room(10);
-    }
-    if places < entries {
-        return Inverted::Room(10);
-    }
-    if bases < objects / 256 + 1 {
-        return Inverted::Room(11);
-    }
-    if short <= objects {
-        return Inverted::Room(11);
-    }
-    if working <= objects {
-        return Inverted::Room(11);
-    }
-    Inverted::Done { entries, long: 0 }
-}
-
 pub fn is_done(answer: Inverted) -> bool
     ensures { λ r. ⌜ r ≡ accepts (invertedSays answer) ⌝ }
 {
@@ -96,16 +66,6 @@ pub fn is_done(answer: Inverted) -> bool
         } => true,
         Inverted::Room(_) => false,
         Inverted::Columns(_) => false,
-    }
-}
-
-fn entries_kept(answer: Inverted) -> usize
-    ensures { λ r. ⌜ r ≡ kept 1 (invertedSays answer) ⌝ }
-{
-    match answer {
-        Inverted::Done { entries, long: _ } => entries,
-        Inverted::Room(_) => 0,
-        Inverted::Columns(_) => 0,
     }
 }
 
@@ -211,21 +171,5 @@ pub fn code(
         return with_long(entries_kept(answer), coded);
     }
     store::code::zero_all(in_bases, in_short, in_long_at, in_long_value);
-    answer
-}
-
-// Clears the ends behind the entries that the answer keeps, which is all after a refusal, and the work space.
-pub fn settle(
-    answer: Inverted,
-    sources: &mut [u32],
-    places: &mut [u32],
-    working: &mut [u64],
-) -> Inverted
-    ensures { λ r. ⌜ Settled (invertedSays answer) (invertedSays r) (entry sources) (entry places) (entry working) (exit sources) (exit places) (exit working) ⌝ }
-{
-    let end = entries_kept(answer);
-    columns::zero_u32(sources, end);
-    columns::zero_u32(places, end);
-    columns::zero_u64(working, 0);
     answer
 }

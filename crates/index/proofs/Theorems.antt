@@ -17,8 +17,8 @@ use Rattle.columns.proofs.Ranks.{bisect-found}
 use Rattle.columns.proofs.Tests.{each-of}
 use Rattle.index.specs.declared.CodedIds.{CodedIds}
 use Rattle.index.specs.declared.CodedIds.the-variants.{Done, Room}
-use Rattle.index.specs.declared.CopiedId.{CopiedId}
-use Rattle.index.specs.declared.CopiedId.the-variants.{Id, Index, Copied}
+use Rattle.index_read.specs.declared.CopiedId.{CopiedId}
+use Rattle.index_read.specs.declared.CopiedId.the-variants.{Id, Index, Copied}
 use Rattle.index.specs.Copied.{idsCodedSays, idSays, ESCAPED, inline, codeOf, codesTo, isEscape, escapesTo, escapeIdsTo, escapeRows, idsOf, copiedOf, idsCodingSays, IdsAccepted, IdsCoding, whole, escapeBack, idBack}
 use Rattle.index.proofs.Verdict.{coding-accepted, accepted-says}
 use Rattle.index.proofs.Zeros.{three-zeros}

@@ -1,33 +1,23 @@
--- Copied ids (document 01, "Copied ids"): what the coded columns are, what coding answers, and what reading one id back answers.
--- Assumes nothing.
-use Prim.Native.Nat.{ℕ, _+_, _-_, _*_, _/_, _^_, _≤_}
+-- Copied ids (document 01, "Copied ids"): what the coded columns are, and what coding answers. Assumes nothing.
+use Prim.Native.Nat.{ℕ, _+_, _-_, _/_, _≤_}
 use mathlib.Core.Path.{_≡_}
 use mathlib.Core.Bool.{Bool, cond}
 use mathlib.Core.List.{List, [], _∷_, map}
 use lib.Count.{trailingZeros}
 use lib.Dec.{ltb, leb, eqb}
 use lib.ListN.{length}
-use Rattle.columns.specs.Lists.{_!_, tab, places, allOf, anyOf}
+use Rattle.columns.specs.Lists.{_!_, tab, places, allOf}
 use Rattle.columns.specs.Columns.{zeros, over, padded, leaves}
-use Rattle.columns.specs.Ranks.{bisect}
 use Rattle.index.specs.declared.CodedIds.{CodedIds}
 use Rattle.index.specs.declared.CodedIds.the-variants.{Done, Room}
-use Rattle.index.specs.declared.CopiedId.{CopiedId}
-use Rattle.index.specs.declared.CopiedId.the-variants.{Id, Index, Copied}
+-- the columns and their base, and what reading one id back answers
+pub use Rattle.index_read.specs.Back.{ESCAPED, Ids, idsOf, idSays}
+unfoldable pub use Rattle.index_read.specs.Back.{whole, escapeBack, idBack}
 
--- Document 01's number and values for each answer; 0 is acceptance, and then the lengths used, or the id, follow.
+-- Document 01's number and values for each answer; 0 is acceptance, and then the lengths used follow.
 abbrev pub idsCodedSays : CodedIds → List ℕ
 idsCodedSays (Done c e) = 0 ∷ c ∷ e ∷ []
 idsCodedSays (Room k) = 9 ∷ k ∷ []
-
-abbrev pub idSays : CopiedId → List ℕ
-idSays (Id v) = 0 ∷ v ∷ []
-idSays (Index i) = 11 ∷ i ∷ []
-idSays (Copied i) = 5 ∷ i ∷ []
-
--- the code that stands for "everything else is escaped"
-abbrev pub ESCAPED : ℕ
-ESCAPED = 4294967295
 
 -- "If id ≥ base, the distance has at least three trailing zero bits, and distance / 8 + 1 is at most 4,294,967,294", of numbers of 64 bits.
 unfoldable pub inline : ℕ → ℕ → Bool
@@ -49,16 +39,6 @@ escapesTo base ids n = places (isEscape base ids) n
 
 abbrev pub escapeIdsTo : ℕ → List ℕ → ℕ → List ℕ
 escapeIdsTo base ids n = map (λ i. ids ! i) (escapesTo base ids n)
-
--- The copied columns, and the base that they are over.
-pub record Ids : Type 0 where
-  pub codes : List ℕ
-  pub places : List ℕ
-  pub ids : List ℕ
-  pub base : ℕ
-
-abbrev pub idsOf : List ℕ → List ℕ → List ℕ → ℕ → Ids
-idsOf c p v base = record { codes = c; places = p; ids = v; base = base }
 
 unfoldable pub copiedOf : ℕ → List ℕ → Ids
 copiedOf base ids = idsOf (codesTo base ids (length ids)) (escapesTo base ids (length ids)) (escapeIdsTo base ids (length ids)) base
@@ -103,19 +83,3 @@ pub record IdsCoding (base : ℕ) (ids : List ℕ) (nc np ni : ℕ) (r : CodedId
   pub codes : c ≡ leaves (idsCodedSays r) (copiedOf base ids .codes) nc
   pub escape-places : p ≡ leaves (idsCodedSays r) (copiedOf base ids .places) np
   pub escape-ids : v ≡ leaves (idsCodedSays r) (copiedOf base ids .ids) ni
-
--- Reading. "A non-zero code whose id is 0 or passes 64 bits" is COPIED at its position.
-unfoldable pub whole : ℕ → ℕ → List ℕ
-whole i id = cond (anyOf (eqb id 0 ∷ leb (2 ^ 64) id ∷ [])) (5 ∷ i ∷ []) (0 ∷ id ∷ [])
-
--- The row of an escape is the one where bisection ends, if its place is i; a code without its row is COPIED too.
-unfoldable pub escapeBack : List ℕ → List ℕ → ℕ → ℕ → List ℕ
-escapeBack ps vs i k = cond (allOf (ltb k (length ps) ∷ eqb (ps ! k) i ∷ ltb k (length vs) ∷ [])) (whole i (vs ! k)) (5 ∷ i ∷ [])
-
--- What `id_at` answers: INDEX past the end; id 0 for code 0; else the id, or COPIED.
-unfoldable pub idBack : Ids → ℕ → List ℕ
-idBack c i =
-    cond (ltb i (length (c .codes)))
-    (cond (eqb (c .codes ! i) 0) (0 ∷ 0 ∷ [])
-    (cond (eqb (c .codes ! i) ESCAPED) (escapeBack (c .places) (c .ids) i (bisect (c .places) i)) (whole i (c .base + 8 * (c .codes ! i - 1)))))
-    (11 ∷ i ∷ [])

@@ -1,5 +1,6 @@
 // The steps of coding ids.
 use super::CodedIds;
+pub use index_read::ESCAPED;
 ghost use mathlib.Core.Path.{_≡_};
 ghost use Prim.Native.Nat.{_≤_};
 ghost use lib.ListN.{length};
@@ -7,9 +8,6 @@ ghost use Rattle.columns.specs.Lists.{_!_};
 ghost use Rattle.columns.specs.Columns.{accepts};
 ghost use Rattle.columns.specs.Loans.{entry, exit};
 ghost use Rattle.index.specs.Copied.{codeOf, idsCodedSays, idsCodingSays, escapeRows, IdsAccepted, IdsLaid, IdsFilled, IdsEmptied};
-
-// The code of an id that is kept whole in the escapes.
-pub const ESCAPED: u32 = 4294967295;
 
 // An id's code over a base. The count of trailing zero bits decides whether the distance is a whole number of steps; of distance 0 it is 64.
 pub fn code_of(id: u64, base: u64) -> u32

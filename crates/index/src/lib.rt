@@ -1,24 +1,17 @@
 // Reference ids in four bytes each: the distance above a base in steps of 8 bytes, plus one; an id that does not fit is kept whole in a list of
 // escapes, by place (`Copied`).
 pub mod code;
-mod read;
 
-ghost use mathlib.Core.Path.{_≡_};
+pub use index_read::CopiedId;
+pub use index_read::id_at;
 ghost use lib.ListN.{length};
 ghost use Rattle.columns.specs.Loans.{entry, exit};
-ghost use Rattle.index.specs.Copied.{IdsCoding, idSays, idsOf, idBack};
+ghost use Rattle.index.specs.Copied.{IdsCoding};
 
 // What coding answers: the lengths used of codes and of escapes; or the refusal.
 pub enum CodedIds {
     Done { codes: usize, escapes: usize },
     Room(usize),
-}
-
-// What reading one id back answers.
-pub enum CopiedId {
-    Id(u64),
-    Index(usize),
-    Copied(usize),
 }
 
 // Codes the ids over a base. The unused ends of the three columns are zero after acceptance, and all of them after a refusal.
@@ -52,27 +45,4 @@ pub fn code_ids(
     }
     code::zero_all(codes, escape_places, escape_ids);
     r
-}
-
-// The id at i, read from the used parts of the three columns. An escape's row is found by bisection.
-pub fn id_at(
-    codes: &[u32],
-    escape_places: &[u64],
-    escape_ids: &[u64],
-    base: u64,
-    i: usize,
-) -> CopiedId
-    ensures { λ r. ⌜ idSays r ≡ idBack (idsOf (entry codes) (entry «escape_places») (entry «escape_ids») base) i ⌝ }
-{
-    if codes.len() <= i {
-        return CopiedId::Index(i);
-    }
-    let code = codes[i];
-    if code == 0 {
-        return CopiedId::Id(0);
-    }
-    if code == code::ESCAPED {
-        return read::escape_at(escape_places, escape_ids, i);
-    }
-    read::inline_at(base, code, i)
 }

@@ -16,8 +16,8 @@ use Rattle.columns.proofs.Written.{used-part, used-length}
 use Rattle.columns.proofs.Ranks.{bisect-found}
 use Rattle.store.specs.declared.CodedOffsets.{CodedOffsets}
 use Rattle.store.specs.declared.CodedOffsets.the-variants.{Done, Limit, Parts, Room}
-use Rattle.store.specs.declared.Offset.{Offset}
-use Rattle.store.specs.declared.Offset.the-variants.{Value, Index, Columns}
+use Rattle.store_read.specs.declared.Offset.{Offset}
+use Rattle.store_read.specs.declared.Offset.the-variants.{Value, Index, Columns}
 use Rattle.store.specs.Blocked.{codedSays, offsetSays, baseAt, aboveAt, isLow, isLong, blocksOf, basesTo, shortTo, longAtTo, longValueTo, longRows, firstLow, blockedOf, blocked, codingSays, Accepted, Coding, longBack, shortBack, readBack}
 use Rattle.store.proofs.Verdict.{coding-accepted, accepted-says}
 

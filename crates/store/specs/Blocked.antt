@@ -1,30 +1,24 @@
--- Blocked offsets (document 01, "Blocks and labels"): what the coded columns are, what coding answers, and what reading one offset back answers.
--- Assumes nothing.
-use Prim.Native.Nat.{ℕ, _+_, _-_, _*_, _/_, _^_, _≤_, min}
+-- Blocked offsets (document 01, "Blocks and labels"): what the coded columns are, and what coding answers. Assumes nothing.
+use Prim.Native.Nat.{ℕ, _+_, _-_, _*_, _/_, _≤_, min}
 use mathlib.Core.Path.{_≡_}
 use mathlib.Core.Bool.{Bool, cond}
 use mathlib.Core.List.{List, [], _∷_, map}
-use lib.Dec.{ltb, leb, eqb}
+use lib.Dec.{ltb, leb}
 use lib.ListN.{length}
 use Rattle.columns.specs.Lists.{_!_, tab, places, firstPlace}
 use Rattle.columns.specs.Columns.{zeros, over, padded, leaves}
-use Rattle.columns.specs.Ranks.{bisect}
 use Rattle.store.specs.declared.CodedOffsets.{CodedOffsets}
 use Rattle.store.specs.declared.CodedOffsets.the-variants.{Done, Limit, Parts, Room}
-use Rattle.store.specs.declared.Offset.{Offset}
-use Rattle.store.specs.declared.Offset.the-variants.{Value, Index, Columns}
+-- the four columns, and what reading one offset back answers
+pub use Rattle.store_read.specs.Back.{Blocked, blockedOf, offsetSays}
+unfoldable pub use Rattle.store_read.specs.Back.{longBack, shortBack, readBack}
 
--- Document 01's number and values for each answer; 0 is acceptance, and then the lengths used, or the value, follow.
+-- Document 01's number and values for each answer; 0 is acceptance, and then the lengths used follow.
 abbrev pub codedSays : CodedOffsets → List ℕ
 codedSays (Done b s l) = 0 ∷ b ∷ s ∷ l ∷ []
 codedSays Limit = 2 ∷ 0 ∷ []
 codedSays (Parts i) = 10 ∷ 1 ∷ i ∷ []
 codedSays (Room k) = 9 ∷ k ∷ []
-
-abbrev pub offsetSays : Offset → List ℕ
-offsetSays (Value v) = 0 ∷ v ∷ []
-offsetSays (Index i) = 11 ∷ i ∷ []
-offsetSays (Columns i) = 12 ∷ i ∷ []
 
 -- "Offset i is its block's base (offset at 256 × (i / 256)) plus a short number."
 abbrev pub baseAt : List ℕ → ℕ → ℕ
@@ -55,15 +49,6 @@ abbrev pub longValueTo : List ℕ → ℕ → List ℕ
 longValueTo vs n = map (λ i. vs ! i) (longAtTo vs n)
 
 -- The four columns of the numbers vs.
-pub record Blocked : Type 0 where
-  pub bases : List ℕ
-  pub short : List ℕ
-  pub longAt : List ℕ
-  pub longValue : List ℕ
-
-abbrev pub blockedOf : List ℕ → List ℕ → List ℕ → List ℕ → Blocked
-blockedOf b s a v = record { bases = b; short = s; longAt = a; longValue = v }
-
 unfoldable pub blocked : List ℕ → Blocked
 blocked vs = blockedOf (basesTo vs (blocksOf (length vs))) (shortTo vs (length vs)) (longAtTo vs (length vs)) (longValueTo vs (length vs))
 
@@ -125,22 +110,3 @@ pub record Coding (vs : List ℕ) (nb ns na nv : ℕ) (r : CodedOffsets) (b s a 
   pub short : s ≡ leaves (codedSays r) (blocked vs .short) ns
   pub long-at : a ≡ leaves (codedSays r) (blocked vs .longAt) na
   pub long-value : v ≡ leaves (codedSays r) (blocked vs .longValue) nv
-
--- Reading. The long row of i is the one where bisection ends, if its place is i; else the entry cannot be read back.
-unfoldable pub longBack : List ℕ → List ℕ → ℕ → ℕ → List ℕ
-longBack at val i k =
-    cond (ltb k (length at))
-    (cond (eqb (at ! k) i) (cond (ltb k (length val)) (0 ∷ val ! k ∷ []) (12 ∷ i ∷ [])) (12 ∷ i ∷ []))
-    (12 ∷ i ∷ [])
-
--- A short number stands on its block's base; a sum that passes 64 bits cannot be read back.
-unfoldable pub shortBack : List ℕ → ℕ → ℕ → List ℕ
-shortBack bs s i =
-    cond (ltb (i / 256) (length bs)) (cond (ltb (bs ! (i / 256) + s) (2 ^ 64)) (0 ∷ (bs ! (i / 256) + s) ∷ []) (12 ∷ i ∷ [])) (12 ∷ i ∷ [])
-
--- What `offset_at` answers: "index past the end panics: INDEX"; the number; or COLUMNS.
-unfoldable pub readBack : Blocked → ℕ → List ℕ
-readBack b i =
-    cond (ltb i (length (b .short)))
-    (cond (eqb (b .short ! i) 65535) (longBack (b .longAt) (b .longValue) i (bisect (b .longAt) i)) (shortBack (b .bases) (b .short ! i) i))
-    (11 ∷ i ∷ [])

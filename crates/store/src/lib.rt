@@ -1,11 +1,11 @@
 // Offsets in two bytes each above a base for every 256 of them; one too far above its base is kept whole in a long list, by place (`Blocked`).
 pub mod code;
-mod read;
 
-ghost use mathlib.Core.Path.{_≡_};
+pub use store_read::Offset;
+pub use store_read::offset_at;
 ghost use lib.ListN.{length};
 ghost use Rattle.columns.specs.Loans.{entry, exit};
-ghost use Rattle.store.specs.Blocked.{Coding, offsetSays, blockedOf, readBack};
+ghost use Rattle.store.specs.Blocked.{Coding};
 
 // What coding answers: the lengths used of bases, of short numbers and of long rows; or the refusal.
 pub enum CodedOffsets {
@@ -17,13 +17,6 @@ pub enum CodedOffsets {
     Limit,
     Parts(usize),
     Room(usize),
-}
-
-// What reading one offset back answers.
-pub enum Offset {
-    Value(u64),
-    Index(usize),
-    Columns(usize),
 }
 
 // Codes the numbers `values`. The unused ends of the four columns are zero after acceptance, and all of them after a refusal.
@@ -50,25 +43,4 @@ pub fn code_offsets(
     }
     code::zero_all(bases, short, long_at, long_value);
     r
-}
-
-// The number at i, read from the used parts of the four columns. A long row is found by bisection.
-pub fn offset_at(
-    bases: &[u64],
-    short: &[u16],
-    long_at: &[u32],
-    long_value: &[u64],
-    i: usize,
-) -> Offset
-    ensures { λ r. ⌜ offsetSays r ≡ readBack (blockedOf (entry bases) (entry short) (entry «long_at») (entry «long_value»)) i ⌝ }
-{
-    if short.len() <= i {
-        return Offset::Index(i);
-    }
-    let s = short[i];
-    if s == 65535 {
-        read::long_at(long_at, long_value, i)
-    } else {
-        read::short_at(bases, s, i)
-    }
 }

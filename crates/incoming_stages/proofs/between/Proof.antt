@@ -3,7 +3,7 @@ use mathlib.Core.Path.{sym, ap, ap₂, _∙_}
 use native.Mathlib.Omega.{arith}
 use Rattle.columns.specs.Lists.{allOf}
 use Rattle.columns.specs.Columns.{accepts}
-use Rattle.store.specs.declared.Offset.{Offset}
+use Rattle.store_read.specs.declared.Offset.{Offset}
 use Rattle.store.specs.Blocked.{offsetSays}
 use Rattle.incoming_stages.specs.Stages.{betweenOf}
 use Prim.Native.Nat.{ℕ}
