@@ -37,7 +37,9 @@ returns-3 : tie.Need-returns-3
 returns-3 c =
     let s = c .before .before .before .before .before .before .before .before .before .before .before .before .before .before .before .before .before .before .before .before .before .before .before .before .before .before .before .before .before .before .before .before .before .before .before .before in
     let p = c .before .before .before .before .before .before .before .before .before .before .before .before .before .before .before .before .before .before .before .spans .ensures in
-    each-asked (single s) (s .args .objects .now) (s .args .own-targets .now) (s .args .found .now) (c .before .before .before .before .before .before .before .before .before .before .before .before .before .before .before .before .before .before .before .before .before .before .before .if1 .left) (c .before .before .before .before .before .before .before .before .before .before .before .before .before .before .before .before .before .before .before .before .before .before .if2 .left) (p .same-targets) (p .same-found)
+    each-asked (single s) (s .args .objects .now) (s .args .own-targets .now) (s .args .found .now)
+    (c .before .before .before .before .before .before .before .before .before .before .before .before .before .before .before .before .before .before .before .before .before .before .before .if1 .left) (c .before .before .before .before .before .before .before .before .before .before .before .before .before .before .before .before .before .before .before .before .before .before .if2 .left)
+    (p .same-targets) (p .same-found)
     (c .before .before .before .before .before .before .before .before .before .before .before .ask .ensures) (c .before .before .before .before .settle3 .ensures)
 
 pub field-spec : {M : Type 1} → statement M
