@@ -3,6 +3,7 @@ use ask_field::Sought;
 use labels::code::ELEMENT;
 use rules::Field;
 use rules::Label;
+use std::num::wrapping_add_u16;
 ghost use mathlib.Core.Path.{_≡_};
 ghost use mathlib.Core.Bool.{true};
 ghost use Prim.Native.Nat.{_+_, _<_, _≤_};
@@ -57,7 +58,8 @@ pub(crate) fn sole(fields: &[u32], label: u32, asked: usize) -> SoleCode
     SoleCode { code, most }
 }
 
-// The first edge with the label's code. A code that says no field by itself, and no element, leaves a doubt.
+// The first edge with the label's code. A code that says no field by itself, and no element, leaves a doubt: with the two halves of all codes exchanged, elements
+// come first, then such fields, so that one test tells.
 fn first_code(
     edge_codes: &[u16],
     start: usize,
@@ -71,7 +73,7 @@ fn first_code(
     ensures { λ r. ⌜ Quick r (decoded (plainOf (entry «edge_codes») (entry fields)) start count label) ⌝ }
 {
     let asked = sole.code;
-    let most = sole.most;
+    let odd = sole.most + ELEMENT;
     let mut k = 0;
     while k < count {
         let edge = start + k;
@@ -79,14 +81,10 @@ fn first_code(
         if code as u32 == asked {
             return Sought::At(k);
         }
-        if code < most {
-            k += 1;
-        } else {
-            if code < ELEMENT {
-                return Sought::Bad;
-            }
-            k += 1;
+        if odd <= wrapping_add_u16(code, ELEMENT) {
+            return Sought::Bad;
         }
+        k += 1;
     }
     Sought::Nothing
 }

@@ -11,15 +11,14 @@ ghost use Prim.Native.Nat.{_≤_};
 ghost use lib.ListN.{length};
 ghost use Rattle.columns.specs.Loans.{entry, exit};
 ghost use Rattle.columns.specs.Columns.{kept};
-ghost use Rattle.rules.specs.Types.{fieldSays, eachFieldSays};
+ghost use Rattle.rules.specs.Types.{eachFieldSays};
 ghost use Rattle.rules.specs.Each.{eachLeft};
 ghost use Rattle.ask_span.specs.Graph.{edgeColumns};
-ghost use Rattle.ask_field.specs.Sought.{fieldFound};
 ghost use Rattle.ask_short.specs.Lean.{shortOf};
-ghost use Rattle.ask_each.specs.Listed.{Sole, FewTold, Told, asks, Asked, EachSettled, leftEach};
+ghost use Rattle.ask_each.specs.Listed.{Sole, Told, Asking, Onward, asks, Asked, EachSettled, leftEach};
 
-// The single question: by the codes, or else the whole.
-fn one(
+// Answers by the codes from a position on, up to the first that leaves a doubt: its position.
+fn run(
     bases: &[u64],
     short: &[u16],
     long_at: &[u32],
@@ -29,63 +28,61 @@ fn one(
     fields: &[u32],
     escape_at: &[u64],
     escape_label: &[u32],
-    object: usize,
+    objects: &[u32],
     label: u32,
     sole: SoleCode,
-    start: usize,
-    count: usize,
-) -> Field
+    from: usize,
+    own_targets: &mut [u32],
+    found: &mut [u8],
+) -> usize
+    requires { ⌜ (length (now objects) ≤ length (now «own_targets»)) × (length (now objects) ≤ length (now found)) ⌝ }
     requires { ⌜ Sole (now fields) label (sole .code) (sole .most) ⌝ }
-    requires { ⌜ FewTold (shortOf (now bases) (now short)) (length (now «edge_codes»)) (length (now targets)) object start count ⌝ }
+    requires { ⌜ (
+        let graph = edgeColumns now bases short «long_at» «long_value» «edge_codes» targets fields «escape_at» «escape_label» in
+        Asking graph label (now objects) (now «own_targets») (now found) from) ⌝ }
     ensures { λ r. ⌜ (
         let graph = edgeColumns entry bases short «long_at» «long_value» «edge_codes» targets fields «escape_at» «escape_label» in
-        fieldSays r ≡ fieldFound graph object label) ⌝ }
+        Onward graph label (entry objects) from (entry «own_targets») (entry found) (exit «own_targets») (exit found) r) ⌝ }
 {
-    let quick = codes::by_codes(
-        bases,
-        short,
-        edge_codes,
-        targets,
-        fields,
-        object,
-        label,
-        sole,
-        start,
-        count,
-    );
-    match quick {
-        Field::Target(t) => Field::Target(t),
-        Field::Nothing => Field::Nothing,
-        Field::Index(_) => ask_field::field(
+    let mut i = from;
+    while i < objects.len() {
+        let start = own_targets[i] as usize;
+        let count = found[i] as usize;
+        let object = objects[i] as usize;
+        match codes::by_codes(
             bases,
             short,
-            long_at,
-            long_value,
             edge_codes,
             targets,
             fields,
-            escape_at,
-            escape_label,
             object,
             label,
-        ),
-        Field::Columns(_) => ask_field::field(
-            bases,
-            short,
-            long_at,
-            long_value,
-            edge_codes,
-            targets,
-            fields,
-            escape_at,
-            escape_label,
-            object,
-            label,
-        ),
+            sole,
+            start,
+            count,
+        ) {
+            Field::Target(t) => {
+                own_targets[i] = t;
+                found[i] = 1;
+                i += 1;
+            }
+            Field::Nothing => {
+                own_targets[i] = 0;
+                found[i] = 0;
+                i += 1;
+            }
+            Field::Index(_) => {
+                return i;
+            }
+            Field::Columns(_) => {
+                return i;
+            }
+        }
     }
+    i
 }
 
-// The answers of the list in order, over the spans: up to the first that is refused.
+// The answers of the list in order, over the spans: by the codes, or else as the single question, up to the first that is refused.
 fn ask(
     bases: &[u64],
     short: &[u16],
@@ -111,10 +108,7 @@ fn ask(
 {
     let mut i = 0;
     while i < objects.len() {
-        let start = own_targets[i] as usize;
-        let count = found[i] as usize;
-        let object = objects[i] as usize;
-        match one(
+        let at = run(
             bases,
             short,
             long_at,
@@ -124,28 +118,47 @@ fn ask(
             fields,
             escape_at,
             escape_label,
-            object,
+            objects,
             label,
             sole,
-            start,
-            count,
-        ) {
-            Field::Target(t) => {
-                own_targets[i] = t;
-                found[i] = 1;
-                i += 1;
+            i,
+            own_targets,
+            found,
+        );
+        if at < objects.len() {
+            let object = objects[at] as usize;
+            match ask_field::field(
+                bases,
+                short,
+                long_at,
+                long_value,
+                edge_codes,
+                targets,
+                fields,
+                escape_at,
+                escape_label,
+                object,
+                label,
+            ) {
+                Field::Target(t) => {
+                    own_targets[at] = t;
+                    found[at] = 1;
+                    i = at + 1;
+                }
+                Field::Nothing => {
+                    own_targets[at] = 0;
+                    found[at] = 0;
+                    i = at + 1;
+                }
+                Field::Index(_) => {
+                    return EachField::Index(at);
+                }
+                Field::Columns(_) => {
+                    return EachField::Columns(at);
+                }
             }
-            Field::Nothing => {
-                own_targets[i] = 0;
-                found[i] = 0;
-                i += 1;
-            }
-            Field::Index(_) => {
-                return EachField::Index(i);
-            }
-            Field::Columns(_) => {
-                return EachField::Columns(i);
-            }
+        } else {
+            i = at;
         }
     }
     EachField::Done(i)
@@ -199,15 +212,8 @@ pub fn field(
     if found.len() < objects.len() {
         return settle(EachField::Room(12), own_targets, found);
     }
-    spans::spans(
-        bases,
-        short,
-        edge_codes.len(),
-        targets.len(),
-        objects,
-        own_targets,
-        found,
-    );
+    let end = spans::limit(edge_codes.len(), targets.len());
+    spans::spans(bases, short, end, objects, own_targets, found);
     let code = codes::sole(fields, label, objects.len());
     let answer = ask(
         bases,

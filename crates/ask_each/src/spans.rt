@@ -1,9 +1,9 @@
-// The spans of a list of objects, by the short columns.
+// The spans of a list of objects, by the short columns. Each is told by a few tests, so that many reads are on their way at once.
 ghost use Prim.Native.Nat.{_<_, _≤_};
 ghost use lib.ListN.{length};
 ghost use Rattle.columns.specs.Loans.{entry, exit};
 ghost use Rattle.ask_short.specs.Lean.{shortOf};
-ghost use Rattle.ask_each.specs.Listed.{FewTold, Between, SpansTold};
+ghost use Rattle.ask_each.specs.Listed.{Based, FewTold, Fits, Told, Telling};
 
 // Where an object's edges start and how many they are; 255 where that is not told.
 pub struct Few {
@@ -11,48 +11,50 @@ pub struct Few {
     pub count: u8,
 }
 
-// The edges between two offsets, where they are few and end within codes and targets.
-fn few_between(start: u64, end: u64, codes: usize, targets: usize) -> Few
-    requires { ⌜ start < 4294967296 ⌝ }
-    ensures { λ r. ⌜ Between start end codes targets (r .start) (r .count) ⌝ }
+// How many offsets have a base: all, or none is trusted.
+fn based(bases: &[u64], short: &[u16]) -> usize
+    ensures { λ r. ⌜ Based (length (entry bases)) (length (entry short)) r ⌝ }
 {
-    if end < start {
-        return Few {
-            start: 0,
-            count: 255,
-        };
+    if short.len() == 0 {
+        return 0;
     }
-    if 254 < end - start {
-        return Few {
-            start: 0,
-            count: 255,
-        };
+    if bases.len() <= (short.len() - 1) / 256 {
+        return 0;
     }
-    if (codes as u64) < end {
-        return Few {
-            start: 0,
-            count: 255,
-        };
-    }
-    if (targets as u64) < end {
-        return Few {
-            start: 0,
-            count: 255,
-        };
-    }
-    Few {
-        start: start as u32,
-        count: (end - start) as u8,
-    }
+    short.len()
 }
 
-// The span of an object, where both its offsets are short and it has few edges.
-fn short_span(bases: &[u64], short: &[u16], codes: usize, targets: usize, object: u32) -> Few
-    ensures { λ r. ⌜ FewTold (shortOf (entry bases) (entry short)) codes targets object (r .start) (r .count) ⌝ }
+// The lesser of two lengths, in 32 bits.
+pub(crate) fn limit(codes: usize, targets: usize) -> u64
+    ensures { λ r. ⌜ (r ≤ codes) × (r ≤ targets) × (r < 4294967296) ⌝ }
+{
+    let most = 4294967295;
+    if codes < targets {
+        if codes < most {
+            return codes as u64;
+        }
+        return most as u64;
+    }
+    if targets < most {
+        return targets as u64;
+    }
+    most as u64
+}
+
+// The span of an object, where both its offsets are short and of one block, and it has few edges that end by the limit.
+fn short_span(bases: &[u64], short: &[u16], known: usize, limit: u64, object: u32) -> Few
+    requires { ⌜ Based (length (now bases)) (length (now short)) known × (limit < 4294967296) ⌝ }
+    ensures { λ r. ⌜ FewTold (shortOf (entry bases) (entry short)) limit limit object (r .start) (r .count) ⌝ }
 {
     let at = object as usize;
     let next = at + 1;
-    if short.len() <= next {
+    if known <= next {
+        return Few {
+            start: 0,
+            count: 255,
+        };
+    }
+    if next % 256 == 0 {
         return Few {
             start: 0,
             count: 255,
@@ -60,60 +62,102 @@ fn short_span(bases: &[u64], short: &[u16], codes: usize, targets: usize, object
     }
     let first = short[at];
     let last = short[next];
-    if first == 65535 {
-        return Few {
-            start: 0,
-            count: 255,
-        };
-    }
     if last == 65535 {
         return Few {
             start: 0,
             count: 255,
         };
     }
-    if bases.len() <= next / 256 {
+    if last < first {
         return Few {
             start: 0,
             count: 255,
         };
     }
-    let from = bases[at / 256];
-    let to = bases[next / 256];
-    if 4294901760 <= from {
+    above(bases[at / 256], first, last, limit)
+}
+
+// The edges between two short numbers above a base.
+fn above(base: u64, first: u16, last: u16, limit: u64) -> Few
+    requires { ⌜ (first ≤ last) × (limit < 4294967296) ⌝ }
+    ensures { λ r. ⌜ (r .count < 255 → Fits base first last limit (r .start) (r .count)) ⌝ }
+{
+    if 254 < last - first {
         return Few {
             start: 0,
             count: 255,
         };
     }
-    if 4294901760 <= to {
+    if limit < base {
         return Few {
             start: 0,
             count: 255,
         };
     }
-    few_between(from + first as u64, to + last as u64, codes, targets)
+    if limit < base + last as u64 {
+        return Few {
+            start: 0,
+            count: 255,
+        };
+    }
+    Few {
+        start: (base + first as u64) as u32,
+        count: (last - first) as u8,
+    }
+}
+
+// Tells the spans from a position on, up to the first that leaves a doubt: its position.
+fn tell(
+    bases: &[u64],
+    short: &[u16],
+    known: usize,
+    limit: u64,
+    objects: &[u32],
+    from: usize,
+    own_targets: &mut [u32],
+    found: &mut [u8],
+) -> usize
+    requires { ⌜ (length (now objects) ≤ length (now «own_targets»)) × (length (now objects) ≤ length (now found)) × (from ≤ length (now objects)) ⌝ }
+    requires { ⌜ Based (length (now bases)) (length (now short)) known × (limit < 4294967296) ⌝ }
+    requires { ⌜ Told (shortOf (now bases) (now short)) limit limit (now objects) (now «own_targets») (now found) 0 from ⌝ }
+    ensures { λ r. ⌜ Telling (shortOf (entry bases) (entry short)) limit limit (entry objects) from
+        (entry «own_targets») (entry found) (exit «own_targets») (exit found) r ⌝ }
+{
+    let mut i = from;
+    while i < objects.len() {
+        let at = short_span(bases, short, known, limit, objects[i]);
+        if at.count == 255 {
+            return i;
+        }
+        own_targets[i] = at.start;
+        found[i] = at.count;
+        i += 1;
+    }
+    i
 }
 
 // The spans of all objects, kept in the columns that the answers will stand in.
 pub(crate) fn spans(
     bases: &[u64],
     short: &[u16],
-    codes: usize,
-    targets: usize,
+    limit: u64,
     objects: &[u32],
     own_targets: &mut [u32],
     found: &mut [u8],
 )
-    requires { ⌜ (length (now objects) ≤ length (now «own_targets»)) × (length (now objects) ≤ length (now found)) ⌝ }
-    ensures { λ _. ⌜ SpansTold (shortOf (entry bases) (entry short)) codes targets (entry objects)
-        (entry «own_targets») (entry found) (exit «own_targets») (exit found) ⌝ }
+    requires { ⌜ (length (now objects) ≤ length (now «own_targets»)) × (length (now objects) ≤ length (now found)) × (limit < 4294967296) ⌝ }
+    ensures { λ _. ⌜ Telling (shortOf (entry bases) (entry short)) limit limit (entry objects) 0
+        (entry «own_targets») (entry found) (exit «own_targets») (exit found) (length (entry objects)) ⌝ }
 {
+    let known = based(bases, short);
     let mut i = 0;
     while i < objects.len() {
-        let at = short_span(bases, short, codes, targets, objects[i]);
-        own_targets[i] = at.start;
-        found[i] = at.count;
-        i += 1;
+        let at = tell(bases, short, known, limit, objects, i, own_targets, found);
+        if at < objects.len() {
+            found[at] = 255;
+            i = at + 1;
+        } else {
+            i = at;
+        }
     }
 }

@@ -7,6 +7,7 @@ use denote.Ref.{now}
 use Rattle.columns.proofs.Tests.{some-of}
 use Rattle.ask_span.specs.Graph.{edgeColumns}
 use Rattle.ask_each.specs.Listed.{asks}
+use Rattle.ask_each.proofs.Offsets.{told-wider}
 use Rattle.ask_each.proofs.Answers.{each-room, each-asked}
 use borrow.Author.Needs.{needs}
 use Rattle.ask_each.proofs.field.Statement.{statement}
@@ -31,15 +32,16 @@ returns-2 c =
 ask-requires : tie.Need-ask-requires
 ask-requires c κs =
     let p = c .before .before .before .before .before .before .before .spans .ensures in
-    ((omega (arith, p .same-targets, c .before .before .before .before .before .before .before .before .before .before .before .if1 .left), omega (arith, p .same-found, c .before .before .before .before .before .before .before .before .before .before .if2 .left)), (c .before .before .sole .ensures, p .spans))
+    let e = c .before .before .before .before .before .before .before .before .before .before .limit .ensures in
+    ((omega (arith, p .same-targets, c .before .before .before .before .before .before .before .before .before .before .before .before .if1 .left), omega (arith, p .same-found, c .before .before .before .before .before .before .before .before .before .before .before .if2 .left)), (c .before .before .sole .ensures, told-wider (e .0) (e .1) (p .spans)))
 
 returns-3 : tie.Need-returns-3
 returns-3 c =
-    let s = c .before .before .before .before .before .before .before .before .before .before .before .before .before .before .before .before .before .before .before .before .before .before .before .before .before .before .before .before .before .before .before .before .before .before .before .before in
+    let s = c .before .before .before .before .before .before .before .before .before .before .before .before .before .before .before .before .before .before .before .before .before .before .before .before .before .before .before .before .before .before .before .before .before .before .before .before .before in
     let p = c .before .before .before .before .before .before .before .before .before .before .before .before .before .before .before .before .before .before .before .spans .ensures in
     each-asked (single s) (s .args .objects .now) (s .args .own-targets .now) (s .args .found .now)
-    (c .before .before .before .before .before .before .before .before .before .before .before .before .before .before .before .before .before .before .before .before .before .before .before .if1 .left) (c .before .before .before .before .before .before .before .before .before .before .before .before .before .before .before .before .before .before .before .before .before .before .if2 .left)
-    (p .same-targets) (p .same-found)
+    (c .before .before .before .before .before .before .before .before .before .before .before .before .before .before .before .before .before .before .before .before .before .before .before .before .if1 .left)
+    (c .before .before .before .before .before .before .before .before .before .before .before .before .before .before .before .before .before .before .before .before .before .before .before .if2 .left) (p .same-targets) (p .same-found)
     (c .before .before .before .before .before .before .before .before .before .before .before .ask .ensures) (c .before .before .before .before .settle3 .ensures)
 
 pub field-spec : {M : Type 1} → statement M
@@ -54,6 +56,7 @@ field-spec =
     (λ c. search needs)
     (λ c. search needs)
     returns-2
+    (λ c κs. search needs)
     (λ c κs. search needs)
     (λ c κs. search needs)
     ask-requires

@@ -1,4 +1,4 @@
--- `ask_each::spans::short_span` meets its contract: two short offsets say the span, and every doubt tells nothing. Assumes nothing.
+-- `ask_each::spans::short_span` meets its contract: two short offsets of one block say the span, and every doubt tells nothing. Assumes nothing.
 use Prim.Native.Nat.{_+_}
 use native.Mathlib.Omega.{arith}
 use Rattle.ask_each.proofs.Offsets.{few-told, few-untold}
@@ -18,35 +18,23 @@ returns-3 c = few-untold _ _ _ _ _
 returns-4 : tie.Need-returns-4
 returns-4 c = few-untold _ _ _ _ _
 
+shared-slice-read-first : tie.Need-shared-slice-read-first
+shared-slice-read-first c = let s = c .before .before .before .before .before in omega (arith, s .pre .0 .placed (s .args .object + 1) (c .before .before .if1 .left))
+
+shared-slice-read-last : tie.Need-shared-slice-read-last
+shared-slice-read-last c = let s = c .before .before .before .before .before .before in omega (arith, s .pre .0 .placed (s .args .object + 1) (c .before .before .before .if1 .left))
+
+shared-slice-read-above : tie.Need-shared-slice-read-above
+shared-slice-read-above c = let s = c .before .before .before .before .before .before .before .before .before in s .pre .0 .based (s .args .object) (omega (arith, c .before .before .before .before .before .before .if1 .left))
+
 returns-5 : tie.Need-returns-5
-returns-5 c = few-untold _ _ _ _ _
-
-returns-6 : tie.Need-returns-6
-returns-6 c = few-untold _ _ _ _ _
-
-cast-few-between : tie.Need-cast-few-between
-cast-few-between c = omega (arith, c .before .before .before .before .before .before .before .before .shared-slice-known3 .given (c .before .before .before .before .before .before .before .before .before .before .before .before .args .object))
-
-add-few-between : tie.Need-add-few-between
-add-few-between c = omega (arith, c .before .before .before .before .before .before .before .before .shared-slice-known3 .given (c .before .before .before .before .before .before .before .before .before .before .before .before .args .object), c .before .if5 .left)
-
-cast-few-between-2 : tie.Need-cast-few-between-2
-cast-few-between-2 c = omega (arith, c .before .before .before .before .before .before .before .shared-slice-known4 .given (c .before .before .before .before .before .before .before .before .before .before .before .before .args .object + 1))
-
-add-few-between-2 : tie.Need-add-few-between-2
-add-few-between-2 c = omega (arith, c .before .before .before .before .before .before .before .shared-slice-known4 .given (c .before .before .before .before .before .before .before .before .before .before .before .before .args .object + 1), c .if6 .left)
-
-few-between-requires : tie.Need-few-between-requires
-few-between-requires c κs = omega (arith, c .before .before .before .before .before .before .before .before .shared-slice-known3 .given (c .before .before .before .before .before .before .before .before .before .before .before .before .args .object), c .before .if5 .left)
-
-returns-7 : tie.Need-returns-7
-returns-7 c =
+returns-5 c =
     let h = c .before in
-    let a = h .before .before .before .before .before .before .before .before .before .before .before .before .args in
-    few-told (a .bases .now) (a .short .now) (a .codes) (a .targets) (a .object) (h .before .before .before .before .before .before .before .before .before .if1 .left) (h .before .before .before .before .before .before .if2 .left) (h .before .before .before .before .before .if3 .left) (h .before .before .before .before .if4 .left)
-    (omega (arith, h .before .before .before .before .before .before .before .before .shared-slice-known3 .given (a .object), h .before .if5 .left))
-    (omega (arith, h .before .before .before .before .before .before .before .shared-slice-known4 .given (a .object + 1), h .if6 .left))
-    (c .few-between .ensures)
+    let s = h .before .before .before .before .before .before .before .before .before in
+    let a = s .args in
+    let known = h .before .before .before .before .before .before .if1 .left in
+    few-told (a .bases .now) (a .short .now) (a .limit) (a .object) (s .pre .0 .placed (a .object + 1) known) (s .pre .0 .based (a .object) (omega (arith, known)))
+    (h .before .before .before .before .before .if2 .left) (h .before .before .if3 .left) (omega (arith, h .before .before .before .shared-slice-known4 .given (a .object + 1))) (h .before .if4 .left) (s .pre .1) (c .above .ensures)
 
 pub short-span-spec : {M : Type 1} → statement M
 short-span-spec =
@@ -54,22 +42,14 @@ short-span-spec =
     (tie.spec
     (λ c. search needs)
     returns
-    (λ c. search needs)
-    (λ c. search needs)
-    (λ c. search needs)
-    (λ c. search needs)
     returns-2
+    (λ c. search needs)
+    shared-slice-read-first
+    (λ c. search needs)
+    shared-slice-read-last
     returns-3
     returns-4
     (λ c. search needs)
-    (λ c. search needs)
-    (λ c. search needs)
-    (λ c. search needs)
-    returns-5
-    returns-6
-    cast-few-between
-    add-few-between
-    cast-few-between-2
-    add-few-between-2
-    few-between-requires
-    returns-7)
+    shared-slice-read-above
+    (λ c κs. search needs)
+    returns-5)
