@@ -47,10 +47,24 @@ mul-own-targets : tie.Need-mul-own-targets Inv-loop μ-loop
 mul-own-targets c = omega (arith, c .before .before .before .before .before .if1 .taken, c .before .before .before .before .before .before .before .before .before .before .before .before .before .before .before .before .before .before .before .before .before .before .before .before .before .before .before .good)
 
 slice-write-own-targets : tie.Need-slice-write-own-targets Inv-loop μ-loop
-slice-write-own-targets c = omega (arith, c .before .before .before .before .before .if1 .taken, c .before .before .before .before .before .before .before .before .before .before .run .ensures .same-targets, c .before .before .before .before .before .before .before .before .before .before .before .before .before .before .loop .inv .same-targets, c .before .before .before .before .before .before .before .before .before .before .before .before .before .before .before .before .before .before .before .before .before .before .before .before .before .before .before .pre .0 .0)
+slice-write-own-targets c =
+    omega (
+      arith,
+      c .before .before .before .before .before .if1 .taken,
+      c .before .before .before .before .before .before .before .before .before .before .run .ensures .same-targets,
+      c .before .before .before .before .before .before .before .before .before .before .before .before .before .before .loop .inv .same-targets,
+      c .before .before .before .before .before .before .before .before .before .before .before .before .before .before .before .before .before .before .before .before .before .before .before .before .before .before .before .pre .0 .0,
+    )
 
 slice-write-found : tie.Need-slice-write-found Inv-loop μ-loop
-slice-write-found c = omega (arith, c .before .before .before .before .before .if1 .taken, c .before .before .before .before .before .before .before .before .before .before .run .ensures .same-found, c .before .before .before .before .before .before .before .before .before .before .before .before .before .before .loop .inv .same-found, c .before .before .before .before .before .before .before .before .before .before .before .before .before .before .before .before .before .before .before .before .before .before .before .before .before .before .before .pre .0 .1)
+slice-write-found c =
+    omega (
+      arith,
+      c .before .before .before .before .before .if1 .taken,
+      c .before .before .before .before .before .before .before .before .before .before .run .ensures .same-found,
+      c .before .before .before .before .before .before .before .before .before .before .before .before .before .before .loop .inv .same-found,
+      c .before .before .before .before .before .before .before .before .before .before .before .before .before .before .before .before .before .before .before .before .before .before .before .before .before .before .before .pre .0 .1,
+    )
 
 add-i : tie.Need-add-i Inv-loop μ-loop
 add-i c = omega (arith, c .before .before .before .before .before .if1 .taken, c .before .before .before .before .before .before .before .before .before .before .before .before .before .before .before .before .before .before .before .before .before .before .before .before .before .before .before .good)
@@ -68,10 +82,24 @@ mul-own-targets-2 : tie.Need-mul-own-targets-2 Inv-loop μ-loop
 mul-own-targets-2 c = omega (arith, c .before .before .before .before .if1 .taken, c .before .before .before .before .before .before .before .before .before .before .before .before .before .before .before .before .before .before .before .before .before .before .before .before .before .before .good)
 
 slice-write-own-targets-2 : tie.Need-slice-write-own-targets-2 Inv-loop μ-loop
-slice-write-own-targets-2 c = omega (arith, c .before .before .before .before .if1 .taken, c .before .before .before .before .before .before .before .before .before .run .ensures .same-targets, c .before .before .before .before .before .before .before .before .before .before .before .before .before .loop .inv .same-targets, c .before .before .before .before .before .before .before .before .before .before .before .before .before .before .before .before .before .before .before .before .before .before .before .before .before .before .pre .0 .0)
+slice-write-own-targets-2 c =
+    omega (
+      arith,
+      c .before .before .before .before .if1 .taken,
+      c .before .before .before .before .before .before .before .before .before .run .ensures .same-targets,
+      c .before .before .before .before .before .before .before .before .before .before .before .before .before .loop .inv .same-targets,
+      c .before .before .before .before .before .before .before .before .before .before .before .before .before .before .before .before .before .before .before .before .before .before .before .before .before .before .pre .0 .0,
+    )
 
 slice-write-found-2 : tie.Need-slice-write-found-2 Inv-loop μ-loop
-slice-write-found-2 c = omega (arith, c .before .before .before .before .if1 .taken, c .before .before .before .before .before .before .before .before .before .run .ensures .same-found, c .before .before .before .before .before .before .before .before .before .before .before .before .before .loop .inv .same-found, c .before .before .before .before .before .before .before .before .before .before .before .before .before .before .before .before .before .before .before .before .before .before .before .before .before .before .pre .0 .1)
+slice-write-found-2 c =
+    omega (
+      arith,
+      c .before .before .before .before .if1 .taken,
+      c .before .before .before .before .before .before .before .before .before .run .ensures .same-found,
+      c .before .before .before .before .before .before .before .before .before .before .before .before .before .loop .inv .same-found,
+      c .before .before .before .before .before .before .before .before .before .before .before .before .before .before .before .before .before .before .before .before .before .before .before .before .before .before .pre .0 .1,
+    )
 
 add-i-2 : tie.Need-add-i-2 Inv-loop μ-loop
 add-i-2 c = omega (arith, c .before .before .before .before .if1 .taken, c .before .before .before .before .before .before .before .before .before .before .before .before .before .before .before .before .before .before .before .before .before .before .before .before .before .before .good)
