@@ -1,8 +1,7 @@
 -- ONE QUESTION FOR A LIST, JOINED TO THE BUILDS. Of what an accepted build left, and of what an accepted `from_parts` left, a field asked of each object of a list is the
 -- same question on the plain edges, row by row, and 12 is never given. No premise but acceptance. Assumes nothing.
 use Prim.Native.Nat.{ℕ, _≤_, _<_}
-use native.Mathlib.Omega.{arith}
-use mathlib.Core.Path.{_≡_, refl, sym, ap, _∙_}
+use mathlib.Core.Path.{_≡_, refl, ap, _∙_}
 use mathlib.Core.Logic.{_⊎_, inl, inr}
 use mathlib.Core.Bool.{Bool, true, false, cond, false≢true}
 use mathlib.Core.List.{List, [], _∷_}

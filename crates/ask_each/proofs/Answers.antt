@@ -15,7 +15,7 @@ use Rattle.columns.proofs.Lists.{map-at, first-hit}
 use Rattle.columns.proofs.Tests.{no-places}
 use Rattle.columns.proofs.Written.{settled-column, leaves-zeros, zeroed}
 use Rattle.rules.specs.Questions.{Columns}
-use Rattle.rules.specs.Each.{targetSaid, foundSaid, EachLeft, firstRefused, eachSays, eachLeft}
+use Rattle.rules.specs.Each.{targetSaid, foundSaid, firstRefused, eachSays, eachLeft}
 use Rattle.ask_short.specs.Lean.{shortly}
 use Rattle.ask_each.specs.Listed.{asks, leftEach, refusedAt, targetAt, foundAt, Told, Asking, Onward, Asked, EachSettled}
 use Rattle.ask_each.proofs.Offsets.{told-less}

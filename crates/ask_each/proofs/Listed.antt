@@ -15,12 +15,10 @@ use Rattle.columns.proofs.Every.{Every, every-places}
 use Rattle.columns.proofs.Lists.{map-at, first-none}
 use Rattle.columns.proofs.Parts.{first-ext}
 use Rattle.columns.proofs.Placing.{map-ext}
-use Rattle.columns.proofs.Written.{zero-at}
 use Rattle.store.specs.Blocked.{readBack}
 use Rattle.rules.specs.Questions.{Columns}
 use Rattle.rules.specs.Each.{targetSaid, foundSaid, EachLeft, firstRefused, eachSays, eachLeft}
 use Rattle.ask_span.specs.Reading.{ended, spanOf}
-use Rattle.ask_span.specs.Graph.{spanIn}
 use Rattle.ask_field.specs.Sought.{soughtIn, soughtTarget, fieldFound}
 use Rattle.ask_field.specs.declared.Sought.{Sought}
 use Rattle.ask_field.specs.declared.Sought.the-variants.{At, Nothing, Bad}

@@ -1,7 +1,7 @@
 -- The span of an object whose two offsets are short and of one block; spans in longer columns; and spans told in two columns, position by position. Assumes nothing.
-use Prim.Native.Nat.{ℕ, _+_, _-_, _/_, _%_, _^_, _≤_, _<_}
+use Prim.Native.Nat.{ℕ, _+_, _-_, _/_, _^_, _≤_, _<_}
 use native.Mathlib.Omega.{arith}
-use mathlib.Core.Path.{_≡_, refl, sym, ap, ap₂, _∙_}
+use mathlib.Core.Path.{_≡_, refl, ap, _∙_}
 use mathlib.Core.Logic.{_⊎_, inl, inr}
 use mathlib.Core.Bool.{Bool, true, false, cond}
 use mathlib.Core.List.{List, [], _∷_}
@@ -16,14 +16,7 @@ use Rattle.columns.proofs.Tests.{each-of}
 use Rattle.store.specs.Blocked.{Blocked, shortBack, readBack}
 use Rattle.ask_span.specs.Reading.{ended, spanOf}
 use Rattle.ask_short.specs.Lean.{shortOf}
-use Rattle.ask_each.specs.Listed.{Based, Fits, FewTold, Told, Telling}
-
--- all offsets have a base where the last one has
-pub based-all : (bases short : ℕ) → (short - 1) / 256 < bases → 0 < short → Based bases short short
-based-all bases short h some = record { placed = λ i l. l; based = λ i l. omega arith }
-
-pub based-none : (bases short : ℕ) → Based bases short 0
-based-none bases short = record { placed = λ i l. absurd (omega arith); based = λ i l. absurd (omega arith) }
+use Rattle.ask_each.specs.Listed.{Few, FewTold, Told, Telling}
 
 -- a short offset is its number above the block's base
 short-reads : (bases short : List ℕ) (i : ℕ) → i < length short → (short ! i ≡ 65535 → ⊥) → i / 256 < length bases → bases ! (i / 256) + short ! i < 2 ^ 64
@@ -39,21 +32,29 @@ span-is b codes targets o {s} {e} there first next climbs coded targeted =
     rw (lt-ltb o (length (b .short) - 1) there, first, next, le-leb s e climbs, le-leb e codes coded, le-leb e targets targeted)
 
 -- Two short numbers above one base.
-module _ (bases short : List ℕ) (limit o : ℕ) (there : o + 1 < length short) (based : o / 256 < length bases) (inner : (o + 1) % 256 ≡ 0 → ⊥) (is-short : short ! (o + 1) ≡ 65535 → ⊥) (width : short ! (o + 1) < 65536)
-    (climbs : short ! o ≤ short ! (o + 1)) (small : limit < 4294967296)
-  where
-    next-base : (o + 1) / 256 ≡ o / 256
-    next-base = omega arith
+module _ (bases short : List ℕ) (limit o : ℕ) {count : ℕ} (f : Few bases short limit o count) (small : limit < 4294967296) where
+  abbrev base : ℕ
+  base = bases ! (o / 256)
 
-    pub few-told : {s count : ℕ} → (count < 255 → Fits (bases ! (o / 256)) (short ! o) (short ! (o + 1)) limit s count) → FewTold (shortOf bases short) limit limit o s count
-    few-told {s} {count} fits few =
-        let f = fits few in
-        let base = bases ! (o / 256) in
-        let last-fits : base + short ! (o + 1) < 2 ^ 64 = omega (arith, f .limited) in
-        let first : readBack (shortOf bases short) o ≡ 0 ∷ (base + short ! o) ∷ [] = short-reads bases short o (omega arith) (λ q. is-short (omega arith)) based (omega arith) in
-        let next : readBack (shortOf bases short) (o + 1) ≡ 0 ∷ (base + short ! (o + 1)) ∷ [] =
-        short-reads bases short (o + 1) there is-short (rw next-base based) (rw next-base last-fits) ∙ ap (λ (k : ℕ). 0 ∷ (bases ! k + short ! (o + 1)) ∷ []) next-base in
-        span-is (shortOf bases short) limit limit o (omega arith) first next (omega arith) (f .limited) (f .limited) ∙ ap₂ (λ (a b : ℕ). 0 ∷ a ∷ b ∷ []) (sym (f .starts)) (sym (f .ends))
+  next-base : (o + 1) / 256 ≡ o / 256
+  next-base = let inner = f .inner in omega arith
+
+  last-fits : base + short ! (o + 1) < 2 ^ 64
+  last-fits = omega (arith, f .limited)
+
+  first-reads : readBack (shortOf bases short) o ≡ 0 ∷ (base + short ! o) ∷ []
+  first-reads = short-reads bases short o (omega (arith, f .placed)) (λ q. omega (arith, f .is-short, f .counted)) (f .based) (omega (arith, f .counted, last-fits))
+
+  next-reads : readBack (shortOf bases short) (o + 1) ≡ 0 ∷ (base + short ! (o + 1)) ∷ []
+  next-reads =
+      short-reads bases short (o + 1) (f .placed) (λ q. omega (arith, f .is-short)) (rw next-base (f .based)) (rw next-base last-fits)
+      ∙ ap (λ (k : ℕ). 0 ∷ (bases ! k + short ! (o + 1)) ∷ []) next-base
+
+  pub few-told : FewTold (shortOf bases short) limit limit o (base + short ! o) count
+  few-told few =
+      let ends : base + short ! (o + 1) ≡ base + short ! o + count = omega (arith, f .counted) in
+      span-is (shortOf bases short) limit limit o (omega (arith, f .placed)) first-reads next-reads (omega (arith, f .counted)) (f .limited) (f .limited)
+      ∙ ap (λ (e : ℕ). 0 ∷ (base + short ! o) ∷ e ∷ []) ends
 
 -- a count of 255 tells nothing
 pub few-untold : (b : Blocked) (codes targets o s : ℕ) → FewTold b codes targets o s 255

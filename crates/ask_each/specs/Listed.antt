@@ -1,5 +1,5 @@
 -- A field asked of each object of a list: the single question, what a call left, and the steps. Assumes nothing.
-use Prim.Native.Nat.{ℕ, _+_, _/_, _≤_, _<_}
+use Prim.Native.Nat.{ℕ, _+_, _/_, _%_, _≤_, _<_}
 use mathlib.Core.Path.{_≡_}
 use mathlib.Core.Bool.{Bool, true, cond, not}
 use mathlib.Core.List.{List, [], _∷_, map}
@@ -51,11 +51,14 @@ pub record Based (bases short n : ℕ) : Type 0 where
 abbrev pub FewTold : Blocked → ℕ → ℕ → ℕ → ℕ → ℕ → Type 0
 FewTold b codes targets o start count = count < 255 → spanOf b codes targets o ≡ 0 ∷ start ∷ (start + count) ∷ []
 
--- it is the edges between two short numbers above a base, and ends by the limit
-pub record Fits (base first last limit start count : ℕ) : Type 0 where
-  pub starts : start ≡ base + first
-  pub ends : start + count ≡ base + last
-  pub limited : base + last ≤ limit
+-- So many edges lie between two short numbers above one base, and they end by the limit.
+pub record Few (bases short : List ℕ) (limit o count : ℕ) : Type 0 where
+  pub placed : o + 1 < length short
+  pub based : o / 256 < length bases
+  pub inner : (o + 1) % 256 ≡ 0 → ⊥
+  pub is-short : short ! (o + 1) < 65535
+  pub counted : short ! o + count ≡ short ! (o + 1)
+  pub limited : bases ! (o / 256) + short ! (o + 1) ≤ limit
 
 -- The spans of the list's objects from one position up to another stand in two columns.
 pub record Told (b : Blocked) (codes targets : ℕ) (os t m : List ℕ) (from to : ℕ) : Type 0 where

@@ -1,15 +1,10 @@
 // The spans of a list of objects, by the short columns. Each is told by a few tests, so that many reads are on their way at once.
+use std::num::wrapping_sub_u32;
 ghost use Prim.Native.Nat.{_<_, _≤_};
 ghost use lib.ListN.{length};
 ghost use Rattle.columns.specs.Loans.{entry, exit};
 ghost use Rattle.ask_short.specs.Lean.{shortOf};
-ghost use Rattle.ask_each.specs.Listed.{Based, FewTold, Fits, Told, Telling};
-
-// Where an object's edges start and how many they are; 255 where that is not told.
-pub struct Few {
-    pub start: u32,
-    pub count: u8,
-}
+ghost use Rattle.ask_each.specs.Listed.{Based, Few, Told, Telling};
 
 // How many offsets have a base: all, or none is trusted.
 fn based(bases: &[u64], short: &[u16]) -> usize
@@ -41,69 +36,35 @@ pub(crate) fn limit(codes: usize, targets: usize) -> u64
     most as u64
 }
 
-// The span of an object, where both its offsets are short and of one block, and it has few edges that end by the limit.
-fn short_span(bases: &[u64], short: &[u16], known: usize, limit: u64, object: u32) -> Few
+// How many edges an object has, where both its offsets are short and of one block, and these are few and end by the limit; else 255.
+fn few(bases: &[u64], short: &[u16], known: usize, limit: u64, object: u32) -> u8
     requires { ⌜ Based (length (now bases)) (length (now short)) known × (limit < 4294967296) ⌝ }
-    ensures { λ r. ⌜ FewTold (shortOf (entry bases) (entry short)) limit limit object (r .start) (r .count) ⌝ }
+    ensures { λ r. ⌜ (r < 255 → Few (entry bases) (entry short) limit object r) ⌝ }
 {
     let at = object as usize;
     let next = at + 1;
     if known <= next {
-        return Few {
-            start: 0,
-            count: 255,
-        };
+        return 255;
     }
     if next % 256 == 0 {
-        return Few {
-            start: 0,
-            count: 255,
-        };
+        return 255;
     }
-    let first = short[at];
-    let last = short[next];
-    if last == 65535 {
-        return Few {
-            start: 0,
-            count: 255,
-        };
+    let last = short[next] as u32;
+    if 65534 < last {
+        return 255;
     }
-    if last < first {
-        return Few {
-            start: 0,
-            count: 255,
-        };
+    let count = wrapping_sub_u32(last, short[at] as u32);
+    if 254 < count {
+        return 255;
     }
-    above(bases[at / 256], first, last, limit)
-}
-
-// The edges between two short numbers above a base.
-fn above(base: u64, first: u16, last: u16, limit: u64) -> Few
-    requires { ⌜ (first ≤ last) × (limit < 4294967296) ⌝ }
-    ensures { λ r. ⌜ (r .count < 255 → Fits base first last limit (r .start) (r .count)) ⌝ }
-{
-    if 254 < last - first {
-        return Few {
-            start: 0,
-            count: 255,
-        };
-    }
+    let base = bases[at / 256];
     if limit < base {
-        return Few {
-            start: 0,
-            count: 255,
-        };
+        return 255;
     }
     if limit < base + last as u64 {
-        return Few {
-            start: 0,
-            count: 255,
-        };
+        return 255;
     }
-    Few {
-        start: (base + first as u64) as u32,
-        count: (last - first) as u8,
-    }
+    count as u8
 }
 
 // Tells the spans from a position on, up to the first that leaves a doubt: its position.
@@ -125,12 +86,14 @@ fn tell(
 {
     let mut i = from;
     while i < objects.len() {
-        let at = short_span(bases, short, known, limit, objects[i]);
-        if at.count == 255 {
+        let object = objects[i];
+        let count = few(bases, short, known, limit, object);
+        if 254 < count {
             return i;
         }
-        own_targets[i] = at.start;
-        found[i] = at.count;
+        let at = object as usize;
+        own_targets[i] = (bases[at / 256] + short[at] as u64) as u32;
+        found[i] = count;
         i += 1;
     }
     i
