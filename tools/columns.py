@@ -27,10 +27,11 @@ bases short long_at long_value edge_codes targets fields escape_at escape_label 
 INCOMING = "sources places in_bases in_short in_long_at in_long_value working".split()
 # A reader holds target and code parts (document 01).
 READER = "targets codes fields escape_at escape_label".split()
-# What leaf calls name for themselves: any numbers, values to be coded, a part of a column, rows, the answer, and one
-# object's edges, which a question writes.
+# What leaf calls name for themselves: any numbers, values to be coded, a part of a column, rows, the answer, one object's
+# edges, which a question writes, and a list of objects that is asked, with its marks.
 OWN = """
 s d xs values marks from to rows from_offsets from_labels from_weak weak answer own_targets own_labels
+objects found
 """.split()
 
 PROGRAMS = {"print", "case_text", "case_graph", "case_incoming", "replay", "show_cases", "show_worked"}

@@ -1,6 +1,7 @@
 // Answers of the questions as numbers, for a host: how many numbers document 01 gives an answer, those numbers, then zeros. `answer_builds` has the others,
 // `answer_replies` answers in one number.
 use rules::CoarseLabel;
+use rules::EachField;
 use rules::EdgeCount;
 use rules::Entry;
 use rules::ExactLabel;
@@ -13,7 +14,7 @@ use rules::Span;
 use rules::WeakReferents;
 ghost use mathlib.Core.Path.{_≡_};
 ghost use Rattle.rules.specs.Types.{spanSays, edgeCountSays, coarseSays, exactSays, labelOfSays, fieldSays, referentSays, weakSays, objectEdgesSays};
-ghost use Rattle.rules.specs.Types.{invertedSays, entrySays};
+ghost use Rattle.rules.specs.Types.{eachFieldSays, invertedSays, entrySays};
 ghost use Rattle.answer_numbers.specs.Told.{told};
 
 pub fn span(a: Span) -> [u64; 4]
@@ -107,6 +108,17 @@ pub fn object_edges(a: ObjectEdges) -> [u64; 4]
         ObjectEdges::Room(at) => [2, 9, at as u64, 0],
         ObjectEdges::Index(at) => [2, 11, at as u64, 0],
         ObjectEdges::Columns(at) => [2, 12, at as u64, 0],
+    }
+}
+
+pub fn each_field(a: EachField) -> [u64; 4]
+    ensures { λ r. ⌜ r ≡ told 4 (eachFieldSays a) ⌝ }
+{
+    match a {
+        EachField::Done(n) => [2, 0, n as u64, 0],
+        EachField::Room(at) => [2, 9, at as u64, 0],
+        EachField::Index(at) => [2, 11, at as u64, 0],
+        EachField::Columns(at) => [2, 12, at as u64, 0],
     }
 }
 

@@ -32,12 +32,14 @@ use Rattle.rules.specs.declared.WeakReferents.{WeakReferents}
 use Rattle.rules.specs.declared.WeakReferents.the-variants as WeakReferents
 use Rattle.rules.specs.declared.ObjectEdges.{ObjectEdges}
 use Rattle.rules.specs.declared.ObjectEdges.the-variants as ObjectEdges
+use Rattle.rules.specs.declared.EachField.{EachField}
+use Rattle.rules.specs.declared.EachField.the-variants as EachField
 use Rattle.rules.specs.declared.Inverted.{Inverted}
 use Rattle.rules.specs.declared.Inverted.the-variants as Inverted
 use Rattle.rules.specs.declared.Entry.{Entry}
 use Rattle.rules.specs.declared.Entry.the-variants as Entry
 use Rattle.rules.specs.Types.{refusalSays, checkedSays, builtSays, spanSays, edgeCountSays, coarseSays, exactSays, labelOfSays, fieldSays, referentSays}
-use Rattle.rules.specs.Types.{weakSays, objectEdgesSays, invertedSays, entrySays}
+use Rattle.rules.specs.Types.{weakSays, objectEdgesSays, eachFieldSays, invertedSays, entrySays}
 use Rattle.rules.specs.Questions.{Promised}
 
 pub refusal-refuses : (r : Refusal) → accepts (refusalSays r) ≡ false
@@ -233,6 +235,21 @@ objectEdges-back (ObjectEdges.Columns o) = refl
 
 pub one-objectEdges : (r r′ : ObjectEdges) → objectEdgesSays r ≡ objectEdgesSays r′ → r ≡ r′
 one-objectEdges = same objectEdgesSays objectEdgesFrom objectEdges-back
+
+eachFieldFrom : List ℕ → EachField
+eachFieldFrom a =
+    cond (eqb (a ! 0) 0) (EachField.Done (a ! 1))
+    (cond (eqb (a ! 0) 9) (EachField.Room (a ! 1)) (cond (eqb (a ! 0) 11) (EachField.Index (a ! 1)) (EachField.Columns (a ! 1))))
+
+eachField-back : (r : EachField) → eachFieldFrom (eachFieldSays r) ≡ r
+unfolding eachFieldFrom
+eachField-back (EachField.Done n) = refl
+eachField-back (EachField.Room k) = refl
+eachField-back (EachField.Index i) = refl
+eachField-back (EachField.Columns i) = refl
+
+pub one-eachField : (r r′ : EachField) → eachFieldSays r ≡ eachFieldSays r′ → r ≡ r′
+one-eachField = same eachFieldSays eachFieldFrom eachField-back
 
 invertedFrom : List ℕ → Inverted
 invertedFrom a = cond (eqb (a ! 0) 0) (Inverted.Done (a ! 1) (a ! 2)) (cond (eqb (a ! 0) 9) (Inverted.Room (a ! 1)) (Inverted.Columns (a ! 1)))

@@ -27,6 +27,7 @@ use Rattle.rules.specs.Questions.{labelAt, labelIn, fieldIn, columnsOf, 
 use Rattle.rules.specs.Questions.{edgeCount, exactOf, coarseOf, labelOf, field, weakReferents, referent, intoSays, edgesInto, objectEdges}
 use Rattle.rules.specs.Incoming.{edgeTotal, placesTo, sourcesIn, placesIn, inOffset, inOffsets, incomingOf, canRead, unreadable, shortOfIncoming}
 use Rattle.rules.specs.Incoming.{invertSays, invertLeft, usedIncoming}
+use Rattle.rules.specs.Each.{firstRefused, eachSays, eachLeft}
 use Rattle.rules.specs.Worked.{wrong, table, graphCases, enough, empty}
 
 pub worked : wrong table ≡ []
@@ -39,5 +40,5 @@ unfolding table graphCases enough empty tab places allOf anyOf any over padded a
     badDumped badCode badEscape badCopied badPart badSpan faults counts buildSays inColumn badOffsets badLabel badLabels badTargets badPair partsFaults
     codedLeft buildLeft labelAt labelIn fieldIn columnsOf edgesRead rises labelReads readsBack weakRead weakReads asked span edgeCount exactOf coarseOf labelOf
     field weakReferents referent intoSays edgesInto objectEdges edgeTotal placesTo sourcesIn placesIn inOffset inOffsets incomingOf canRead unreadable
-    shortOfIncoming invertSays invertLeft usedIncoming trailingZeros
+    shortOfIncoming invertSays invertLeft usedIncoming firstRefused eachSays eachLeft trailingZeros
 worked = refl

@@ -11,5 +11,6 @@ pub mod Parts
 pub mod Questions
 pub mod Built
 pub mod Incoming
+pub mod Each
 pub mod Worked
 pub mod Tables

@@ -28,6 +28,8 @@ use Rattle.rules.specs.declared.WeakReferents.{WeakReferents}
 use Rattle.rules.specs.declared.WeakReferents.the-variants as WeakReferents
 use Rattle.rules.specs.declared.ObjectEdges.{ObjectEdges}
 use Rattle.rules.specs.declared.ObjectEdges.the-variants as ObjectEdges
+use Rattle.rules.specs.declared.EachField.{EachField}
+use Rattle.rules.specs.declared.EachField.the-variants as EachField
 use Rattle.rules.specs.declared.Inverted.{Inverted}
 use Rattle.rules.specs.declared.Inverted.the-variants as Inverted
 use Rattle.rules.specs.declared.Entry.{Entry}
@@ -123,6 +125,13 @@ objectEdgesSays (ObjectEdges.Edges n) = 0 ∷ n ∷ []
 objectEdgesSays (ObjectEdges.Room k) = 9 ∷ k ∷ []
 objectEdgesSays (ObjectEdges.Index i) = 11 ∷ i ∷ []
 objectEdgesSays (ObjectEdges.Columns o) = 12 ∷ o ∷ []
+
+-- Asked of a list (M-104): INDEX and COLUMNS with the position in the list.
+abbrev pub eachFieldSays : EachField → List ℕ
+eachFieldSays (EachField.Done n) = 0 ∷ n ∷ []
+eachFieldSays (EachField.Room k) = 9 ∷ k ∷ []
+eachFieldSays (EachField.Index i) = 11 ∷ i ∷ []
+eachFieldSays (EachField.Columns i) = 12 ∷ i ∷ []
 
 abbrev pub invertedSays : Inverted → List ℕ
 invertedSays (Inverted.Done n l) = 0 ∷ n ∷ l ∷ []

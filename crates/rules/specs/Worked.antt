@@ -23,6 +23,7 @@ use Rattle.rules.specs.Parts.{partsFaults}
 use Rattle.rules.specs.Built.{buildLeft}
 use Rattle.rules.specs.Questions.{Columns, columnsOf, readsBack, span, edgeCount, exactOf, coarseOf, labelOf, field, referent, weakReferents, EdgesLeft, objectEdges}
 use Rattle.rules.specs.Incoming.{Incoming, incomingOf, inOffsets, InRooms, InLeft, invertSays, invertLeft, usedIncoming}
+use Rattle.rules.specs.Each.{EachLeft, eachLeft}
 
 -- A check: its case, what is computed and what the document says.
 pub record Check : Type 0 where
@@ -116,6 +117,10 @@ invertedBy l = l .says ++ l .sources ++ l .places ++ l .bases ++ l .short ++ l .
 abbrev lentIn : ℕ → ℕ → ℕ → InRooms
 lentIn e o l = record { sources = e; places = e; bases = 1; short = o; longAt = l; longValue = l; working = o }
 
+-- all that asking a list leaves
+abbrev askedBy : EachLeft → List ℕ
+askedBy e = e .says ++ e .targets ++ e .found
+
 -- just the room that a build needs
 unfoldable pub enough : Input → Rooms
 enough x =
@@ -187,6 +192,10 @@ graphCases route =
     ++ case "M-103, room" (invertSays c (lentIn 4 5 0) ++ invertedBy (invertLeft c (lentIn 3 4 0)) ++ invertSays c (lentIn 4 4 0))
     (0 ∷ 4 ∷ 0 ∷ 9 ∷ 10 ∷ 0 ∷ 0 ∷ 0 ∷ 0 ∷ 0 ∷ 0 ∷ 0 ∷ 0 ∷ 0 ∷ 0 ∷ 0 ∷ 0 ∷ 0 ∷ 0 ∷ 0 ∷ 9 ∷ 11 ∷ [])
     ++ case "M-103, columns" (invertSays (record { offsets = c .offsets; targets = 1 ∷ 0 ∷ 4 ∷ 2 ∷ []; labels = c .labels; weakFrom = []; weakTo = [] }) (lentIn 0 0 0)) (12 ∷ 3 ∷ [])
+    ++ case "M-104, loader" (askedBy (eachLeft (λ o. field c o LOADER) (3 ∷ 0 ∷ 3 ∷ []) 3 4)) (0 ∷ 3 ∷ 2 ∷ 0 ∷ 2 ∷ 1 ∷ 0 ∷ 1 ∷ 0 ∷ [])
+    ++ case "M-104, elements" (askedBy (eachLeft (λ o. field c o ARRAY-ELEMENT) (2 ∷ 3 ∷ 2 ∷ 0 ∷ []) 4 4)) (0 ∷ 4 ∷ 0 ∷ 0 ∷ 0 ∷ 0 ∷ 1 ∷ 0 ∷ 1 ∷ 0 ∷ [])
+    ++ case "M-104, refused" (askedBy (eachLeft (λ o. field c o LOADER) (3 ∷ 4 ∷ 9 ∷ []) 3 3)) (11 ∷ 1 ∷ 0 ∷ 0 ∷ 0 ∷ 0 ∷ 0 ∷ 0 ∷ [])
+    ++ case "M-104, room" (askedBy (eachLeft (λ o. field c o LOADER) (4 ∷ 3 ∷ []) 2 1) ++ askedBy (eachLeft (λ o. field c o LOADER) [] 0 1)) (9 ∷ 12 ∷ 0 ∷ 0 ∷ 0 ∷ 0 ∷ 0 ∷ 0 ∷ [])
     ++ case "accepted" (buildSays x (enough x)) (0 ∷ 4 ∷ 1 ∷ 2 ∷ 0 ∷ 4 ∷ 0 ∷ 1 ∷ [])
     ++ case "no room" (buildSays x noRoom ++ buildLeft x noRoom .targets ++ flat (λ r. r) (buildLeft x noRoom .account))
     (9 ∷ 2 ∷ 0 ∷ 0 ∷ 0 ∷ 0 ∷ 0 ∷ 0 ∷ 0 ∷ 0 ∷ 0 ∷ 0 ∷ 0 ∷ 0 ∷ 0 ∷ 0 ∷ 0 ∷ 0 ∷ 0 ∷ 0 ∷ 0 ∷ [])

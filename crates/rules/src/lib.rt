@@ -182,6 +182,14 @@ pub enum ObjectEdges {
     Columns(usize),
 }
 
+// What a question asked of each object of a list answers: how many were asked; or the position in the list at which it was refused.
+pub enum EachField {
+    Done(usize),
+    Room(usize),
+    Index(usize),
+    Columns(usize),
+}
+
 // What inverting answers: how many entries and long rows there are.
 pub enum Inverted {
     Done { entries: usize, long: usize },

@@ -11,9 +11,11 @@ use Rattle.slot_rows.specs.declared.Filled.{Filled}
 use Rattle.slot_rows.specs.Rows.{filledSays, left, Filling}
 use Rattle.rules.specs.Questions.{EdgesLeft}
 use Rattle.rules.specs.Incoming.{InLeft}
+use Rattle.rules.specs.Each.{EachLeft}
 use Rattle.incoming.specs.Laying.{leftInverted}
 use Rattle.ask_edges.specs.Object.{leftEdges}
-use Rattle.yokefathom.specs.Calls.{BuildTold, PartsTold, SlotsTold, EdgesTold, InvertTold}
+use Rattle.ask_each.specs.Listed.{leftEach}
+use Rattle.yokefathom.specs.Calls.{BuildTold, PartsTold, SlotsTold, EdgesTold, EachTold, InvertTold}
 
 pub build-told : {left : BuildLeft} {says answer ts ls fs ws rs wk : List ℕ} {coded : CodedLeft} {a : List (List ℕ)} → answer ≡ told 9 says → leftOf says ts ls fs ws rs wk coded a ≡ left → BuildTold left answer ts ls fs ws rs wk coded a
 build-told {left} {says} {answer} {ts} {ls} {fs} {ws} {rs} {wk} {coded} {a} e l =
@@ -33,6 +35,13 @@ edges-told e f = record {
   told-as = e ∙ ap (λ (x : EdgesLeft). told 4 (x .says)) f;
   targets = ap (λ (x : EdgesLeft). x .targets) f;
   labels = ap (λ (x : EdgesLeft). x .labels) f;
+}
+
+pub each-told : {left : EachLeft} {says answer t m : List ℕ} → answer ≡ told 4 says → leftEach says t m ≡ left → EachTold left answer t m
+each-told e f = record {
+  told-as = e ∙ ap (λ (x : EachLeft). told 4 (x .says)) f;
+  targets = ap (λ (x : EachLeft). x .targets) f;
+  found = ap (λ (x : EachLeft). x .found) f;
 }
 
 pub invert-told : {left : InLeft} {says answer s p b h a v w : List ℕ} → answer ≡ told 4 says → leftInverted says s p b h a v w ≡ left

@@ -10,6 +10,7 @@ use Rattle.rules.specs.Types.{exactSays, labelOfSays}
 use Rattle.rules.specs.Built.{CodedLeft, BuildLeft, PartsLeft, SlotsLeft}
 use Rattle.rules.specs.Questions.{Columns, EdgesLeft}
 use Rattle.rules.specs.Incoming.{InLeft}
+use Rattle.rules.specs.Each.{EachLeft}
 use Rattle.build_rooms.specs.Stages.{leftOf}
 use Rattle.from_parts.specs.Parts.{leftAs}
 use Rattle.ask_label.specs.Labelled.{ExactAt, LabelTo}
@@ -41,6 +42,12 @@ pub record EdgesTold (left : EdgesLeft) (answer t l : List ℕ) : Type 0 where
   pub told-as : answer ≡ told 4 (left .says)
   pub targets : t ≡ left .targets
   pub labels : l ≡ left .labels
+
+-- A field of each object of a list, told likewise.
+pub record EachTold (left : EachLeft) (answer t m : List ℕ) : Type 0 where
+  pub told-as : answer ≡ told 4 (left .says)
+  pub targets : t ≡ left .targets
+  pub found : m ≡ left .found
 
 -- Inverting, told likewise.
 pub record InvertTold (left : InLeft) (answer : List ℕ) (found : InLeft) : Type 0 where

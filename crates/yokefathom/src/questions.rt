@@ -3,16 +3,18 @@ ghost use mathlib.Core.Path.{_≡_};
 ghost use lib.ListN.{length};
 ghost use Rattle.columns.specs.Loans.{entry, exit};
 ghost use Rattle.rules.specs.Tables.{offsetColumns};
+ghost use Rattle.rules.specs.Each.{eachLeft};
 ghost use Rattle.ask_span.specs.Reading.{spanOf, countOf, weakRowsOf};
 ghost use Rattle.ask_span.specs.Graph.{graphColumns, edgeColumns};
 ghost use Rattle.ask_label.specs.Labelled.{coarseAt};
 ghost use Rattle.ask_field.specs.Sought.{fieldFound, referentFound};
 ghost use Rattle.ask_short.specs.Lean.{shortOf, leanColumns, leanEdges, labelFound};
 ghost use Rattle.ask_edges.specs.Object.{edgesFound};
+ghost use Rattle.ask_each.specs.Listed.{asks};
 ghost use Rattle.ask_short_edges.specs.Replied.{EdgesReplied};
 ghost use Rattle.answer_numbers.specs.Told.{told};
 ghost use Rattle.answer_replies.specs.Reply.{spanNumber, replyOf};
-ghost use Rattle.yokefathom.specs.Calls.{EdgesTold, ExactTold, LabelTold};
+ghost use Rattle.yokefathom.specs.Calls.{EdgesTold, EachTold, ExactTold, LabelTold};
 
 // Where the edges of an object sit in the target column.
 #[no_mangle]
@@ -309,6 +311,47 @@ pub extern "C" fn yokefathom_object_edges(
         own_labels,
     );
     let says = answer_numbers::object_edges(found);
+    *answer = says;
+}
+
+// A field of each object of a list: targets and marks from the front of the columns lent, zeros behind them; or a refusal at a position, and both columns zero.
+#[no_mangle]
+pub extern "C" fn yokefathom_field_of_each(
+    objects: &[u32],
+    label: u32,
+    bases: &[u64],
+    short: &[u16],
+    long_at: &[u32],
+    long_value: &[u64],
+    edge_codes: &[u16],
+    targets: &[u32],
+    fields: &[u32],
+    escape_at: &[u64],
+    escape_label: &[u32],
+    own_targets: &mut [u32],
+    found: &mut [u8],
+    answer: &mut [u64; 4],
+)
+    ensures { λ _. ⌜ (
+        let graph = edgeColumns entry bases short «long_at» «long_value» «edge_codes» targets fields «escape_at» «escape_label» in
+        EachTold (eachLeft (asks graph label) (entry objects) (length (entry «own_targets»)) (length (entry found))) (exit answer) (exit «own_targets») (exit found)) ⌝ }
+{
+    let asked = ask_each::field(
+        bases,
+        short,
+        long_at,
+        long_value,
+        edge_codes,
+        targets,
+        fields,
+        escape_at,
+        escape_label,
+        objects,
+        label,
+        own_targets,
+        found,
+    );
+    let says = answer_numbers::each_field(asked);
     *answer = says;
 }
 

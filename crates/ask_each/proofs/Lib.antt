@@ -1,0 +1,5 @@
+pub mod Walk
+pub mod Offsets
+pub mod Single
+pub mod Answers
+pub mod Listed
