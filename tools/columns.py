@@ -34,7 +34,7 @@ s d xs values marks from to rows from_offsets from_labels from_weak weak answer 
 objects found
 """.split()
 
-PROGRAMS = {"print", "case_text", "case_graph", "case_incoming", "replay", "show_cases", "show_worked"}
+PROGRAMS = {"print", "case_text", "case_graph", "case_incoming", "case_each", "replay", "show_cases", "show_worked"}
 
 
 def order_of(path):

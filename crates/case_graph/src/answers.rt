@@ -1,7 +1,9 @@
-// The answers that an accepted graph gives: a line for each object, then the case's questions. They are asked of the used parts of the columns.
+// The answers that an accepted graph gives: a line for each object, then the case's questions, then a field of each object of a list. They are asked of the
+// used parts of the columns.
 use crate::case::Numbers;
 use crate::edges;
 use crate::lists;
+use case_each::words;
 use case_text::arrays;
 use case_text::column::used_u16;
 use case_text::column::used_u32;
@@ -53,7 +55,7 @@ fn question(name: &[u8], object: u32) {
 
 // and the label.
 fn of_label(l: u32) {
-    edges::label(l);
+    words::label(l);
     print::word(b": ");
 }
 
@@ -78,7 +80,7 @@ fn target(t: u32) {
 }
 
 fn label(l: u32) {
-    edges::label(l);
+    words::label(l);
     print::word(b"\n");
 }
 
@@ -257,7 +259,7 @@ fn label_answers(
     }
 }
 
-// The object lines and the questions, over used parts.
+// The object lines, the questions, and those asked of a list, over used parts.
 fn asked<'a>(
     halves: &'a [u32],
     cuts: &'a [usize],
@@ -325,6 +327,19 @@ fn asked<'a>(
         escape_at,
         escape_label,
         codes,
+    );
+    case_each::all(
+        bases,
+        short,
+        long_at,
+        long_value,
+        codes,
+        targets,
+        fields,
+        escape_at,
+        escape_label,
+        of_u32(halves, cuts, lists::FIELD),
+        count,
     );
 }
 

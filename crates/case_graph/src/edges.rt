@@ -1,8 +1,9 @@
 // The line of an object: its span, its edges in exactly the room that they need, what is said of one number less, and its weak targets.
+use case_each::words::fault;
+use case_each::words::label;
 use case_text::column;
 use case_text::form;
 use case_text::zero::zero_u32;
-use rules::Label;
 use rules::ObjectEdges;
 use rules::Span;
 use rules::WeakReferents;
@@ -13,36 +14,6 @@ struct Run {
     target: u32,
     first: u32,
     last: u32,
-}
-
-// The loader and the elements are named, any other label is its number.
-pub(crate) fn label(l: u32) {
-    if l == Label::LOADER {
-        print::word(b"loader");
-        return;
-    }
-    if l < Label::ARRAY_ELEMENT {
-        print::number(columns::wide(l));
-        return;
-    }
-    print::word(b"#");
-    print::number(columns::wide(l - Label::ARRAY_ELEMENT));
-}
-
-// A question's refusal, by document 01's number: ROOM, INDEX or COLUMNS.
-fn fault(number: u64, place: usize) {
-    match number {
-        9 => {
-            print::word(b"room ");
-        }
-        11 => {
-            print::word(b"index ");
-        }
-        _ => {
-            print::word(b"columns ");
-        }
-    }
-    print::number(place as u64);
 }
 
 pub(crate) fn fault_line(number: u64, place: usize) {

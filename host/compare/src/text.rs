@@ -184,6 +184,11 @@ fn columns(out: &mut String, graph: &Graph, rooms: &Rooms) {
     column(out, 16, nothing(), rooms);
 }
 
+/// The original's answer, but for the name count asked as a label.
+fn field(graph: &Graph, names: usize, object: u32, of: u32) -> Option<u32> {
+    graph.field(object, of).filter(|_| of as usize != names)
+}
+
 /// The answers of the original, but for what it has no answer to: an object that does not exist, and the name count asked as a label.
 fn questions(out: &mut String, graph: &Graph, names: usize, asked: &Questions) {
     let answer = |object: u32, found: &dyn Fn() -> Option<String>| match object < graph.root {
@@ -192,17 +197,33 @@ fn questions(out: &mut String, graph: &Graph, names: usize, asked: &Questions) {
     };
     let target = |found: Option<u32>| found.map(|target| target.to_string());
     for &(object, of) in &asked.field {
-        let found = || target(graph.field(object, of).filter(|_| of as usize != names));
+        let found = || target(field(graph, names, object, of));
         line(out, format_args!("field {object} {}: {}", label(of), answer(object, &found)));
     }
     for &(object, of) in &asked.referent {
-        let held = || graph.field(object, of).filter(|_| of as usize != names);
-        let found = || target(held().or_else(|| graph.weak_referents(object).next()));
+        let found = || target(field(graph, names, object, of).or_else(|| graph.weak_referents(object).next()));
         line(out, format_args!("referent {object} {}: {}", label(of), answer(object, &found)));
     }
     for &(object, to) in &asked.label_of {
         let found = || graph.label_of(object, to).map(label);
         line(out, format_args!("label_of {object} {to}: {}", answer(object, &found)));
+    }
+}
+
+/// A field of each object of a list, the objects of the first 64 field questions: of those that exist, and of all where one does not. Asked are the
+/// labels of the first, the middle and the last question.
+fn each(out: &mut String, graph: &Graph, names: usize, asked: &Questions) {
+    let pairs = &asked.field[..asked.field.len().min(64)];
+    let missing = pairs.iter().position(|&(object, _)| object >= graph.root);
+    for at in [0, pairs.len() / 2, pairs.len().saturating_sub(1)] {
+        let Some(&(_, of)) = pairs.get(at) else { return };
+        let there = pairs.iter().filter(|pair| pair.0 < graph.root).map(|&(object, _)| field(graph, names, object, of));
+        let answers: String = there.map(|found| found.map_or(" nothing".into(), |target| format!(" {target}"))).collect();
+        let short = if answers.is_empty() { "" } else { " short room 12 room 12" };
+        line(out, format_args!("each {}:{answers}{short}", label(of)));
+        if let Some(position) = missing {
+            line(out, format_args!("each {} of all: index {position} left zero", label(of)));
+        }
     }
 }
 
@@ -268,6 +289,7 @@ fn done(out: &mut String, case: &Case, route: Route, graph: &Graph, rooms: &Room
         line(out, format_args!("object {object} span {} {} edges{}{short} weak{}", span.start, span.end, edges(&held), numbers(&weak)));
     }
     questions(out, graph, case.names, asked);
+    each(out, graph, case.names, asked);
     incoming(out, graph);
 }
 
