@@ -327,6 +327,24 @@ calls! {
         answer: &mut [u64; 4],
     )
 
+    /// A field of each object of a list: targets and marks from the front of the columns lent, zeros behind them; or a refusal at a position, and both columns zero.
+    pub extern "C" fn yokefathom_field_of_each(
+        objects: &[u32],
+        label: u32,
+        bases: &[u64],
+        short: &[u16],
+        long_at: &[u32],
+        long_value: &[u64],
+        edge_codes: &[u16],
+        targets: &[u32],
+        fields: &[u32],
+        escape_at: &[u64],
+        escape_label: &[u32],
+        own_targets: &mut [u32],
+        found: &mut [u8],
+        answer: &mut [u64; 4],
+    )
+
     /// For each object the objects that refer to it and the places of their edges, rising, with blocked offsets; or a refusal, and all columns lent zero.
     pub extern "C" fn yokefathom_invert(
         bases: &[u64],

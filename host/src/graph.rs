@@ -122,7 +122,7 @@ impl Graph {
     pub fn span(&self, object: u32) -> Result<Range<usize>, Refusal> {
         match self.short_span(object) {
             Some((start, end)) => Ok(start as usize..end as usize),
-            None => Whole(self).span(object),
+            None => Whole(self.columns()).span(object),
         }
     }
 
@@ -131,7 +131,7 @@ impl Graph {
     pub fn degree(&self, object: u32) -> Result<usize, Refusal> {
         match self.short_span(object) {
             Some((start, end)) => Ok((end - start) as usize),
-            None => Whole(self).degree(object),
+            None => Whole(self.columns()).degree(object),
         }
     }
 
@@ -148,7 +148,7 @@ impl Graph {
         let Columns { bases, short, codes, targets, fields, .. } = self.columns();
         let reply = ffi::yokefathom_lean_object_edges(object as usize, bases, short, codes, targets, fields, own_targets, own_labels);
         match reply {
-            0 => Whole(self).object_edges(object, own_targets, own_labels),
+            0 => Whole(self.columns()).object_edges(object, own_targets, own_labels),
             _ => Ok((reply - 2) as usize),
         }
     }
@@ -159,7 +159,21 @@ impl Graph {
     pub fn field(&self, object: u32, label: u32) -> Result<Option<u32>, Refusal> {
         let Columns { bases, short, codes, targets, fields, .. } = self.columns();
         let reply = ffi::yokefathom_lean_field(object as usize, label, bases, short, codes, targets, fields);
-        found(reply, || Whole(self).field(object, label))
+        found(reply, || Whole(self.columns()).field(object, label))
+    }
+
+    /// [`Graph::field`] of each object of a list, in its order, by one call. A refusal has the position in the list: INDEX where there is no such
+    /// object.
+    pub fn field_of_each(&self, objects: &[u32], label: u32) -> Result<Vec<Option<u32>>, Refusal> {
+        let (mut targets, mut found) = (vec![0; objects.len()], vec![0; objects.len()]);
+        self.fields_into(objects, label, &mut targets, &mut found)?;
+        Ok(targets.into_iter().zip(found).map(|(target, found)| (found == 1).then_some(target)).collect())
+    }
+
+    /// The same into two columns of the caller's: from the front a target and the mark 1 for each object, or 0 and 0 where nothing was found, with
+    /// zeros behind them: how many were asked. Where a column is shorter than the list, ROOM 12; after any refusal both columns are zero.
+    pub fn fields_into(&self, objects: &[u32], label: u32, own_targets: &mut [u32], found: &mut [u8]) -> Result<usize, Refusal> {
+        Whole(self.columns()).fields_into(objects, label, own_targets, found)
     }
 
     /// The referent of a reference object, weak or strong: the field, or else the smallest weak target.
@@ -168,7 +182,7 @@ impl Graph {
         let Columns { bases, short, codes, targets, fields, weak_from, weak_to, .. } = self.columns();
         let at = object as usize;
         let reply = ffi::yokefathom_lean_referent(at, label, bases, short, codes, targets, fields, weak_from, weak_to);
-        found(reply, || Whole(self).referent(object, label))
+        found(reply, || Whole(self.columns()).referent(object, label))
     }
 
     /// The exact label of the first edge from one object to another.
@@ -176,7 +190,7 @@ impl Graph {
     pub fn label_of(&self, from: u32, to: u32) -> Result<Option<u32>, Refusal> {
         let Columns { bases, short, codes, targets, fields, .. } = self.columns();
         let reply = ffi::yokefathom_lean_label_of(from as usize, to, bases, short, codes, targets, fields);
-        found(reply, || Whole(self).label_of(from, to))
+        found(reply, || Whole(self.columns()).label_of(from, to))
     }
 
     /// The targets that `object` holds by references that the policy does not keep, rising.

@@ -22,8 +22,8 @@ pub enum Refusal {
     /// More places than the limit.
     Places,
     /// A buffer that is smaller than its need. A build never gives it, nor does [`Graph::incoming`](crate::Graph::incoming):
-    /// [`Graph`](crate::Graph) lends them enough. Where the caller lends, [`SlotColumns::fill`](crate::SlotColumns::fill) gives 17 and
-    /// [`Graph::object_edges`](crate::Graph::object_edges) gives 23.
+    /// [`Graph`](crate::Graph) lends them enough. Where the caller lends, [`Graph::fields_into`](crate::Graph::fields_into) gives 12,
+    /// [`SlotColumns::fill`](crate::SlotColumns::fill) gives 17 and [`Graph::object_edges`](crate::Graph::object_edges) gives 23.
     Room(u64),
     /// Columns handed to `from_parts` that break their rules.
     Parts {
@@ -32,7 +32,7 @@ pub enum Refusal {
         /// The first wrong place in that column.
         position: u64,
     },
-    /// A question about an object, or an edge of an object or to it, that does not exist.
+    /// A question about an object, or an edge of an object or to it, that does not exist. Of a list, the position in it.
     Index(u64),
     /// An entry that cannot be read back. Never on the columns that a build left.
     Columns(u64),

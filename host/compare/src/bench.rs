@@ -1,7 +1,9 @@
 //! Times of both sides in one process, on one thread, by turns: CPU time of the process, least and median of several runs. The original has no
 //! incoming side, so inverting a graph is timed against a plain counting sort of its edges.
-use yokefathom::Graph;
+use std::cell::RefCell;
+
 use yokefathom::compare::IncomingRoom;
+use yokefathom::{ARRAY_ELEMENT, Graph, LOADER};
 
 use crate::case::{Case, ROUTES, Route};
 use crate::memory::{self, Side};
@@ -164,6 +166,34 @@ fn questions(case: &Case, ours: &Graph, theirs: &midden::graph::Graph) {
     );
 }
 
+/// A field of a hundred thousand objects at random by one call (M-104), against a loop of single calls and against the original's loop: asked the label
+/// that most edges have, one that few have, elements, and the loader, which no edge has here.
+fn each(case: &Case, ours: &Graph, theirs: &midden::graph::Graph) {
+    let random = &mut Random::new(13);
+    let objects: Vec<u32> = (0..100_000).map(|_| random.below(case.ids.len() as u64) as u32).collect();
+    let (mut targets, mut found) = (vec![9; objects.len()], vec![9; objects.len()]);
+    let lent = RefCell::new((&mut targets, &mut found));
+    let option = |found: Option<u32>| found.map_or(0, |target| u64::from(target) + 1);
+    let used = |label: u32| case.slot_labels.iter().filter(|&&slot| slot == label).count();
+    let most = (0..case.names as u32).max_by_key(|&label| used(label)).unwrap_or(0);
+    let few = (0..case.names as u32).filter(|&label| used(label) > 0).min_by_key(|&label| used(label)).unwrap_or(0);
+    for (what, label) in
+        [("the most used field", most), ("a field that few have", few), ("the first element", ARRAY_ELEMENT), ("the loader", LOADER)]
+    {
+        let by_one_call = || {
+            let (targets, found) = &mut *lent.borrow_mut();
+            ours.fields_into(&objects, label, targets, found).expect("objects");
+            targets.iter().zip(found.iter()).map(|(&target, &found)| u64::from(target) + u64::from(found)).sum()
+        };
+        let by_single_calls = || objects.iter().map(|&object| option(ours.field(object, label).expect("an object"))).sum();
+        let original = || objects.iter().map(|&object| option(theirs.field(object, label))).sum();
+        let as_options = || ours.field_of_each(&objects, label).expect("objects").into_iter().map(option).sum();
+        by_turns(&format!("{what} of {} objects by one call, against single calls", objects.len()), RUNS, by_one_call, by_single_calls);
+        by_turns(&format!("{what} of {} objects by one call, against the original's loop", objects.len()), RUNS, by_one_call, original);
+        by_turns(&format!("{what} of {} objects as options, against the original's loop", objects.len()), RUNS, as_options, original);
+    }
+}
+
 /// Times of a build on both sides by turns, and the two graphs.
 fn builds(case: &Case, route: Route, runs: usize) -> (Vec<f64>, Vec<f64>, Graph, midden::graph::Graph) {
     let (mut our_times, mut their_times) = (Vec::new(), Vec::new());
@@ -193,6 +223,7 @@ pub fn run(objects: u64) {
             line(&what, &mut our_times, &mut their_times);
             if route == Route::Copied {
                 questions(&case, &ours, &theirs);
+                each(&case, &ours, &theirs);
             }
         }
     }

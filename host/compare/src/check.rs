@@ -4,6 +4,7 @@ use yokefathom::compare::{Room, Whole};
 use yokefathom::{ARRAY_ELEMENT, Account, Graph, LOADER, Refusal};
 
 use crate::case::{Case, Route};
+use crate::each;
 use crate::handed;
 use crate::incoming;
 use crate::lent::{self, Outcome, Used};
@@ -89,8 +90,8 @@ pub fn ask_field(ours: &Graph, theirs: &original::Graph, names: usize, object: u
     let refused = |e: Refusal| format!("field {object} {label}: {e}");
     tally.questions += 2;
     let (field, referent) = (ours.field(object, label).map_err(refused)?, ours.referent(object, label).map_err(refused)?);
-    same("field, the whole question", Whole(ours).field(object, label), Ok(field))?;
-    same("referent, the whole question", Whole(ours).referent(object, label), Ok(referent))?;
+    same("field, the whole question", Whole(ours.columns()).field(object, label), Ok(field))?;
+    same("referent, the whole question", Whole(ours.columns()).referent(object, label), Ok(referent))?;
     if label as usize == names {
         tally.name_count += 1;
         same("field of the name count", field, None)?;
@@ -103,7 +104,7 @@ pub fn ask_field(ours: &Graph, theirs: &original::Graph, names: usize, object: u
 pub fn ask_label(ours: &Graph, theirs: &original::Graph, object: u32, target: u32, tally: &mut Tally) -> Outcome {
     tally.questions += 1;
     let found = ours.label_of(object, target).map_err(|e| e.to_string())?;
-    same("label_of, the whole question", Whole(ours).label_of(object, target), Ok(found))?;
+    same("label_of, the whole question", Whole(ours.columns()).label_of(object, target), Ok(found))?;
     same(&format!("label_of {object} {target}"), found, theirs.label_of(object, target))
 }
 
@@ -131,7 +132,7 @@ fn ask_at_once(ours: &Graph, edges: &[(u32, u32)], object: u32, random: &mut Ran
             }
         }
         same("edges at once", written(lengths, |t, l| ours.object_edges(object, t, l)), expected.clone())?;
-        same("edges at once, the whole question", written(lengths, |t, l| Whole(ours).object_edges(object, t, l)), expected)?;
+        same("edges at once, the whole question", written(lengths, |t, l| Whole(ours.columns()).object_edges(object, t, l)), expected)?;
     }
     Ok(())
 }
@@ -141,13 +142,13 @@ pub fn ask_edges(ours: &Graph, theirs: &original::Graph, object: u32, random: &m
     let refused = |e: Refusal| format!("object {object}: {e}");
     tally.questions += 5;
     same("span", ours.span(object).map_err(refused)?, theirs.span(object))?;
-    same("span, the whole question", Whole(ours).span(object), Ok(theirs.span(object)))?;
+    same("span, the whole question", Whole(ours.columns()).span(object), Ok(theirs.span(object)))?;
     let weak: Vec<u32> = theirs.weak_referents(object).collect();
     same("weak referents", ours.weak_referents(object).map_err(refused)?, weak.as_slice())?;
     let (our, their) = (ours.edges(object).map_err(refused)?, theirs.edges(object));
     same("length", our.len(), their.len())?;
     same("degree", ours.degree(object), Ok(their.len()))?;
-    same("degree, the whole question", Whole(ours).degree(object), Ok(their.len()))?;
+    same("degree, the whole question", Whole(ours.columns()).degree(object), Ok(their.len()))?;
     let pairs: Vec<(u32, u32)> = their.iter().collect();
     same("edges", our.iter().collect::<Vec<_>>(), pairs.clone())?;
     ask_at_once(ours, &pairs, object, random, tally)?;
@@ -233,6 +234,7 @@ pub fn route(case: &Case, route: Route, random: &mut Random, tally: &mut Tally) 
     columns(&ours, &theirs)?;
     questions(&ours, &theirs, case.names, random, tally)?;
     incoming::compare(&ours, &theirs, random, tally)?;
+    each::compare(&ours, &theirs, case.names, random, tally)?;
     tally.graph(Some(route), case.threads);
     tally.dangling += ours.dangling;
     count(&ours, tally);

@@ -11,6 +11,7 @@ use yokefathom::{ARRAY_ELEMENT, Graph, LOADER};
 
 use crate::case::{Case, ROUTES, Route};
 use crate::check::{self, same};
+use crate::each;
 use crate::handed;
 use crate::incoming;
 use crate::lent::Outcome;
@@ -151,6 +152,7 @@ fn route(imported: &Imported, route: Route, random: &mut Random, tally: &mut Tal
     check::questions(&ours, &theirs, case.names, random, tally)?;
     ask(&ours, &theirs, case.names, random, tally)?;
     incoming::compare(&ours, &theirs, random, tally)?;
+    each::compare(&ours, &theirs, case.names, random, tally)?;
     tally.graph(Some(route), case.threads);
     tally.dangling += ours.dangling;
     check::count(&ours, tally);

@@ -19,6 +19,7 @@ mod case;
 mod check;
 mod dropin;
 mod dump;
+mod each;
 mod extremes;
 mod generate;
 mod handed;
