@@ -73,16 +73,16 @@ module _ (n : ℕ) (es : ℕ → List Edge) (l : ℕ) (os : List ℕ) (a b : ℕ
   plain-answered : EachAnswered n es l os a b plain
   plain-answered = record { plain = refl; never-12 = plain-12; exists = exists; target = target; found = found }
 
-answered : {c : Columns} {n : ℕ} {es : ℕ → List Edge} (l : ℕ) → ((o : ℕ) → fieldFound (strong c) o l ≡ plainly n o (0 ∷ fieldIn (es o) l)) → (os : List ℕ) (a b : ℕ) {e : EachLeft}
+answered : (c : Columns) (n : ℕ) (es : ℕ → List Edge) (l : ℕ) → ((o : ℕ) → fieldFound (strong c) o l ≡ plainly n o (0 ∷ fieldIn (es o) l)) → (os : List ℕ) (a b : ℕ) {e : EachLeft}
     → e ≡ eachLeft (asks (strong c) l) os a b → EachAnswered n es l os a b e
-answered {c} {n} {es} l same os a b is = rw (is ∙ each-ext (asks (strong c) l) (plainField n es l) same os a b) (plain-answered n es l os a b)
+answered c n es l same os a b is = rw (is ∙ each-ext (asks (strong c) l) (plainField n es l) same os a b) (plain-answered n es l os a b)
 
 -- THE BUILD: left is what its contract says that the call left, and e what asking the list left over its used parts.
 pub each-built : (x : Input) (r : Rooms) (left : BuildLeft) → left ≡ buildLeft x r → accepts (left .says) ≡ true → (l : ℕ) (os : List ℕ) (a b : ℕ) (e : EachLeft)
     → e ≡ eachLeft (asks (strong (usedColumns (objectCount x) left)) l) os a b → EachAnswered (objectCount x) (edgesOf x) l os a b e
-each-built x r left built ok l os a b e is = answered l (λ o. build-answers x r left built ok o .field l) os a b is
+each-built x r left built ok l os a b e is = answered (usedColumns (objectCount x) left) (objectCount x) (edgesOf x) l (λ o. build-answers x r left built ok o .field l) os a b is
 
 -- `from_parts` likewise.
 pub each-parts : (s : Schema) (p : Parts) (lent : Lent) (left : PartsLeft) → left ≡ partsLeft s p lent → accepts (left .says) ≡ true → (l : ℕ) (os : List ℕ) (a b : ℕ) (e : EachLeft)
     → e ≡ eachLeft (asks (strong (usedParts p left)) l) os a b → EachAnswered (objectsOf p) (edgesAt p) l os a b e
-each-parts s p lent left handed ok l os a b e is = answered l (λ o. parts-answers s p lent left handed ok o .field l) os a b is
+each-parts s p lent left handed ok l os a b e is = answered (usedParts p left) (objectsOf p) (edgesAt p) l (λ o. parts-answers s p lent left handed ok o .field l) os a b is
