@@ -325,6 +325,23 @@ void yokefathom_object_edges(
     uint32_t *own_labels, size_t own_labels_len,
     uint64_t answer[4]);
 
+/* A field of each object of a list: targets and marks from the front of the columns lent, zeros behind them; or a refusal at a position, and both columns zero. */
+void yokefathom_field_of_each(
+    const uint32_t *objects, size_t objects_len,
+    uint32_t label,
+    const uint64_t *bases, size_t bases_len,
+    const uint16_t *short_, size_t short_len,
+    const uint32_t *long_at, size_t long_at_len,
+    const uint64_t *long_value, size_t long_value_len,
+    const uint16_t *edge_codes, size_t edge_codes_len,
+    const uint32_t *targets, size_t targets_len,
+    const uint32_t *fields, size_t fields_len,
+    const uint64_t *escape_at, size_t escape_at_len,
+    const uint32_t *escape_label, size_t escape_label_len,
+    uint32_t *own_targets, size_t own_targets_len,
+    uint8_t *found, size_t found_len,
+    uint64_t answer[4]);
+
 /* For each object the objects that refer to it and the places of their edges, rising, with blocked offsets; or a refusal, and all columns lent zero. */
 void yokefathom_invert(
     const uint64_t *bases, size_t bases_len,
