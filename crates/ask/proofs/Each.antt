@@ -9,7 +9,7 @@ use mathlib.Core.Option.{Option, none, some}
 use lib.Dec.{eqb, ltb}
 use lib.ListN.{length}
 use borrow.Author.Tests.{lt-ltb, le-ltb}
-use Rattle.columns.specs.Lists.{_!_, one, anyOf}
+use Rattle.columns.specs.Lists.{_!_, anyOf}
 use Rattle.columns.specs.Columns.{accepts}
 use Rattle.columns.proofs.Lists.{lt-or-ge}
 use Rattle.rules.specs.Input.{Input, Schema, objectCount}

@@ -9,7 +9,7 @@ use mathlib.Core.List.{List, [], _∷_, map}
 use lib.Dec.{eqb, ltb, leb}
 use lib.ListN.{length, getD, drop, length-map, List·getD-append}
 use borrow.Author.Tests.{ltb-true, ltb-false, le-ltb, not-true}
-use Rattle.columns.specs.Lists.{_!_, places, firstPlace, one, allOf, anyOf}
+use Rattle.columns.specs.Lists.{_!_, places, firstPlace, allOf, anyOf}
 use Rattle.columns.specs.Columns.{zeros, over, padded, accepts, leaves}
 use Rattle.columns.proofs.Every.{Every, every-places}
 use Rattle.columns.proofs.Lists.{map-at, first-none}

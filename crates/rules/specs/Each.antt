@@ -1,7 +1,7 @@
 -- "One question for a thousand sessions" (M-104 of document 02): what asking one question of each object of a list answers and leaves, whatever the single
 -- question f is. Assumes nothing.
 use Prim.Native.Nat.{ℕ}
-use mathlib.Core.Bool.{Bool, cond, not}
+use mathlib.Core.Bool.{cond, not}
 use mathlib.Core.List.{List, [], _∷_, map}
 use lib.Dec.{eqb, ltb}
 use lib.ListN.{length}
