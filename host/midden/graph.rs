@@ -1,8 +1,5 @@
-//! Pass two: the reference graph, built and asked by the library Yokefathom, in which every function is proved. The file takes the place
-//! of midden's own `src/graph.rs`: the same public names and signatures, over the crate `yokefathom`. A damaged dump is refused, in the
-//! library's words: name, number and place. An object that does not exist has no edges. Nothing here panics.
-
-use std::{io, io::Write, ops::Range};
+//! Pass two: the reference graph, by the library Yokefathom, in which every function is proved. Takes the place of midden's `src/graph.rs`. A
+//! damaged dump is refused in the library's words: name, number and place. An object that does not exist has no edges. Nothing here panics.
 
 use super::dump::{Dump, Kind, NONE, RefKind};
 use super::hprof::{Body, IO_BUFFER_SIZE, Sink};
@@ -10,8 +7,9 @@ use super::index::References;
 use super::source::Source;
 use super::store::Column;
 use crate::error::{Error, Result};
+use std::{io, io::Write, ops::Range};
 pub use yokefathom::{ARRAY_ELEMENT, LOADER};
-use yokefathom::{Bodies, References as Held, SlotRow, Tables};
+use yokefathom::{Bodies, Input, References as Held, SlotRow, Tables};
 
 /// Which referents count as strongly held.
 #[derive(Clone, Copy, Debug, PartialEq, Eq, Default)]
@@ -192,13 +190,14 @@ pub fn build(dump: &Dump, source: &Source, reference_policy: ReferencePolicy, re
 /// The graph of what the objects hold.
 fn resolve(dump: &Dump, policy: ReferencePolicy, references: Held<'_>) -> Result<Graph> {
     let mut tables = classes(dump);
-    for (at, object) in dump.objects.range(0, dump.objects.len()).enumerate() {
-        tables.object(dump.objects.id(at), object.kind as u8, object.class, object.len);
+    for at in 0..dump.objects.len() {
+        // Only an object array's length says anything of references, and only its row is whole where the class is none of the dump's.
+        let (kind, class) = (dump.objects.kind(at), dump.objects.class(at));
+        tables.object(dump.objects.id(at), kind as u8, class, if kind == Kind::ObjectArray { dump.objects.get(at).len } else { 0 });
     }
-    let (objects, schema) = (tables.objects(), tables.schema());
     let roots: &[u32] = &dump.roots.iter().map(|&(object, _)| object).collect::<Vec<_>>();
     let policy = yokefathom::ReferencePolicy { soft: policy.soft, weak: policy.weak };
-    Graph::of(yokefathom::Graph::build(&yokefathom::Input { objects, schema, references, roots, policy }))
+    Graph::of(yokefathom::Graph::build(&Input { objects: tables.objects(), schema: tables.schema(), references, roots, policy }))
 }
 
 /// The classes of a dump, and no object yet.
@@ -231,7 +230,8 @@ impl Filler<'_> {
         let near = (self.next..objects.len().min(self.next + 2)).find(|&next| objects.id(next) == id);
         let Some(object) = near.map(|next| next as u32).or_else(|| self.dump.lookup(id)) else { return Ok(()) };
         self.next = object as usize + 1;
-        if objects.kind(object as usize) != kind || kind == Kind::Instance && self.dump.class_of(object).slots.is_empty() {
+        let class = self.dump.classes.get(objects.class(object as usize) as usize);
+        if objects.kind(object as usize) != kind || kind == Kind::Instance && class.is_some_and(|class| class.slots.is_empty()) {
             return Ok(());
         }
         self.bodies.begin(object, body.len());

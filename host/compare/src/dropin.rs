@@ -126,15 +126,24 @@ fn cache_ends() -> Result<(), String> {
 type Damage = (&'static str, fn(&mut Case), &'static [Route]);
 
 /// Damages that a `Dump` of the original can carry.
-const DAMAGES: [Damage; 7] = [
+const DAMAGES: [Damage; 8] = [
     ("a root that is no object", |case| case.roots.push(case.ids.len() as u32), &ROUTES),
     ("a slot without a name", |case| case.slot_labels.iter_mut().for_each(|label| *label = case.names as u32), &ROUTES),
     ("slots out of order", |case| case.slot_offsets.iter_mut().for_each(|offset| *offset = 8), &ROUTES),
     ("a static without a name", |case| case.static_names.iter_mut().for_each(|name| *name = case.names as u32), &ROUTES),
     ("an escape that is not listed", |case| case.codes.iter_mut().for_each(|code| *code = u32::MAX), &[Route::Copied]),
     ("a start too few", |case| case.starts.truncate(case.starts.len().saturating_sub(1)), &[Route::Copied]),
+    ("instances of a class that there is not", no_class, &ROUTES),
     ("parts past the end", |case| case.starts.iter_mut().for_each(|start| *start += 1 << 20), &[Route::Copied]),
 ];
+
+/// A class behind the last, where the original's table has bits for one more.
+fn no_class(case: &mut Case) {
+    let behind = case.class_ids.len() as u32 + 1;
+    if !behind.is_power_of_two() {
+        case.classes.fill(behind);
+    }
+}
 
 /// A damaged dump: `Error::Dump` with our words where the input is refused, and a graph where it is not.
 fn refuse(case: &Case, route: Route) -> Result<bool, String> {
