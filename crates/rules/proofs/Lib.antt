@@ -20,3 +20,4 @@ pub mod Bounds
 pub mod First
 pub mod Incoming
 pub mod Holders
+pub mod Policies

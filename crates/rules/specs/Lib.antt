@@ -12,5 +12,6 @@ pub mod Questions
 pub mod Built
 pub mod Incoming
 pub mod Each
+pub mod Policies
 pub mod Worked
 pub mod Tables

@@ -2,7 +2,7 @@
 use Prim.Native.Nat.{ℕ, zero, suc, _+_, _*_, _/_, _%_}
 use Prim.Native.String.{String}
 use mathlib.Core.Bool.{Bool, true, false, cond, _&&_}
-use mathlib.Core.List.{List, [], _∷_, _++_}
+use mathlib.Core.List.{List, [], _∷_, _++_, map}
 use lib.Dec.{eqb}
 use lib.ListN.{length}
 use Rattle.columns.specs.Lists.{tab, total, flat, one, sort}
@@ -11,7 +11,7 @@ use Rattle.index.specs.Copied.{copiedOf, codeOf}
 use Rattle.rules.specs.declared.ReferencePolicy.{ReferencePolicy}
 use Rattle.rules.specs.Types.{LOADER, ARRAY-ELEMENT, keeps}
 use Rattle.rules.specs.Input.{Input, Route, objectCount}
-use Rattle.rules.specs.Edges.{Pair, pairLe, graph}
+use Rattle.rules.specs.Edges.{Edge, Pair, pairLe, graph}
 use Rattle.rules.specs.Places.{placeCount}
 use Rattle.rules.specs.Labels.{coded, codeTable, exactLabel, ranked}
 use Rattle.rules.specs.Account.{account}
@@ -21,9 +21,10 @@ use Rattle.rules.specs.Needs.{needCodes}
 use Rattle.rules.specs.Verdict.{buildSays}
 use Rattle.rules.specs.Parts.{partsFaults}
 use Rattle.rules.specs.Built.{buildLeft}
-use Rattle.rules.specs.Questions.{Columns, columnsOf, readsBack, span, edgeCount, exactOf, coarseOf, labelOf, field, referent, weakReferents, EdgesLeft, objectEdges}
-use Rattle.rules.specs.Incoming.{Incoming, incomingOf, inOffsets, InRooms, InLeft, invertSays, invertLeft, usedIncoming}
+use Rattle.rules.specs.Questions.{Columns, columnsOf, edgesRead, weakRead, readsBack, span, edgeCount, exactOf, coarseOf, labelOf, field, referent, weakReferents, EdgesLeft, objectEdges}
+use Rattle.rules.specs.Incoming.{edgeTargets, Incoming, incomingOf, inOffsets, InRooms, InLeft, invertSays, invertLeft, usedIncoming}
 use Rattle.rules.specs.Each.{EachLeft, eachLeft}
+use Rattle.rules.specs.Policies.{reached}
 
 -- A check: its case, what is computed and what the document says.
 pub record Check : Type 0 where
@@ -100,12 +101,26 @@ keepSoft = record { soft = true; weak = false }
 abbrev keepWeak : ReferencePolicy
 keepWeak = record { soft = false; weak = true }
 
+abbrev keepBoth : ReferencePolicy
+keepBoth = record { soft = true; weak = true }
+
+-- f of the dump under each of the four policies, one after the other
+abbrev each : Route → (Input → List ℕ) → List ℕ
+each route f = flat (λ p. f (dump route p)) (neither ∷ keepSoft ∷ keepWeak ∷ keepBoth ∷ [])
+
 abbrev columns : Input → Columns
 columns x = columnsOf (x .schema) (graph x)
 
 -- an answer with the two columns that it leaves
 abbrev leftBy : EdgesLeft → List ℕ
 leftBy e = e .says ++ e .targets ++ e .labels
+
+-- what object o's edges and weak pairs are, read back: how many edges with their targets and labels, and how many weak targets, and these
+abbrev readBy : Columns → ℕ → List ℕ
+readBy c o =
+    let es = edgesRead c o in
+    let ws = weakRead c o in
+    length es ∷ (edgeTargets es ++ map (λ (e : Edge). e .label) es ++ length ws ∷ ws)
 
 -- the incoming side, and all that inverting leaves; lent e entries, o offsets and l long rows
 abbrev sides : Incoming → List ℕ
@@ -196,6 +211,10 @@ graphCases route =
     ++ case "M-104, elements" (askedBy (eachLeft (λ o. field c o ARRAY-ELEMENT) (2 ∷ 3 ∷ 2 ∷ 0 ∷ []) 4 4)) (0 ∷ 4 ∷ 0 ∷ 0 ∷ 0 ∷ 0 ∷ 1 ∷ 0 ∷ 1 ∷ 0 ∷ [])
     ++ case "M-104, refused" (askedBy (eachLeft (λ o. field c o LOADER) (3 ∷ 4 ∷ 9 ∷ []) 3 3)) (11 ∷ 1 ∷ 0 ∷ 0 ∷ 0 ∷ 0 ∷ 0 ∷ 0 ∷ [])
     ++ case "M-104, room" (askedBy (eachLeft (λ o. field c o LOADER) (4 ∷ 3 ∷ []) 2 1) ++ askedBy (eachLeft (λ o. field c o LOADER) [] 0 1)) (9 ∷ 12 ∷ 0 ∷ 0 ∷ 0 ∷ 0 ∷ 0 ∷ 0 ∷ [])
+    ++ case "M-111, object 1" (each route (λ y. readBy (columns y) 1)) (0 ∷ 1 ∷ 0 ∷ 0 ∷ 1 ∷ 0 ∷ 1 ∷ 0 ∷ 1 ∷ 0 ∷ 1 ∷ 0 ∷ 1 ∷ 0 ∷ [])
+    ++ case "M-111, sums" (each route (λ y. length (graph y .targets) ∷ length (graph y .weakTo) ∷ graph y .dangling ∷ [])) (4 ∷ 1 ∷ 1 ∷ 4 ∷ 1 ∷ 1 ∷ 5 ∷ 0 ∷ 1 ∷ 5 ∷ 0 ∷ 1 ∷ [])
+    ++ case "M-111, roots" (each route (λ y. graph y .roots)) (0 ∷ 3 ∷ 0 ∷ 3 ∷ 0 ∷ 3 ∷ 0 ∷ 3 ∷ [])
+    ++ case "M-111, reached" (each route (λ y. tab (reached (edgesRead (columns y) 1) (weakRead (columns y) 1)) 4)) (1 ∷ 0 ∷ 0 ∷ 0 ∷ 1 ∷ 0 ∷ 0 ∷ 0 ∷ 1 ∷ 0 ∷ 0 ∷ 0 ∷ 1 ∷ 0 ∷ 0 ∷ 0 ∷ [])
     ++ case "accepted" (buildSays x (enough x)) (0 ∷ 4 ∷ 1 ∷ 2 ∷ 0 ∷ 4 ∷ 0 ∷ 1 ∷ [])
     ++ case "no room" (buildSays x noRoom ++ buildLeft x noRoom .targets ++ flat (λ r. r) (buildLeft x noRoom .account))
     (9 ∷ 2 ∷ 0 ∷ 0 ∷ 0 ∷ 0 ∷ 0 ∷ 0 ∷ 0 ∷ 0 ∷ 0 ∷ 0 ∷ 0 ∷ 0 ∷ 0 ∷ 0 ∷ 0 ∷ 0 ∷ 0 ∷ 0 ∷ 0 ∷ [])
