@@ -21,6 +21,8 @@ pub struct Numbers {
     pub objects: usize,
     // Which of the case's sets of rooms is lent.
     pub set: usize,
+    // Whether this is one of several policies.
+    pub several: bool,
 }
 
 pub enum Sound {
@@ -51,15 +53,44 @@ pub fn numbers_of<'a>(words: &'a [u64], cuts: &'a [usize]) -> Numbers {
         size: number(own, 5) as usize,
         objects: ids.len(),
         set: 0,
+        several: false,
     }
 }
 
-// Six numbers, of which the route and the policy are 0 or 1.
+// The policy is two numbers that are 0 or 1, or that are both 2: every policy.
+fn sound_policy(soft: u64, weak: u64) -> bool {
+    if soft == 2 {
+        return weak == 2;
+    }
+    soft < 2 && weak < 2
+}
+
+// Six numbers, of which the route is 0 or 1.
 fn sound_numbers(own: &[u64]) -> bool {
     if own.len() != 6 {
         return false;
     }
-    own[0] < 2 && own[1] < 2 && own[2] < 2
+    own[0] < 2 && sound_policy(own[1], own[2])
+}
+
+// How many policies the case is built under.
+pub fn policies_of<'a>(words: &'a [u64], cuts: &'a [usize]) -> usize {
+    if number(of_u64(words, cuts, lists::NUMBERS), 1) == 2 {
+        4
+    } else {
+        1
+    }
+}
+
+// The case under one of so many policies: of several neither kept, soft, weak, both; one is its own.
+pub fn with_policy(mut n: Numbers, policies: usize, policy: usize) -> Numbers {
+    if policies < 2 {
+        return n;
+    }
+    n.soft = policy == 1 || policy == 3;
+    n.weak = 2 <= policy;
+    n.several = true;
+    n
 }
 
 // The arrays that rooms are lent of, in the order of the rooms.

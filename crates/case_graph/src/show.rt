@@ -43,6 +43,17 @@ fn counts(c: Counts) {
     );
 }
 
+// What is the same under every policy: edges and weak pairs together, and the ids that no object has.
+fn references(c: Counts) {
+    let edges = c.edges as u64;
+    let weak = c.weak as u64;
+    let sum = std::num::wrapping_add_u64(edges, weak);
+    form::fill(
+        b"  references: edges # + weak # = #, dangling #\n",
+        &[edges, weak, sum, c.dangling],
+    );
+}
+
 // A kind's edges, weak pairs and missing ids.
 fn kind(name: &[u8], row: [u64; 3]) {
     print::word(name);
@@ -170,6 +181,9 @@ fn done<'a>(
     ranking: &[u64],
 ) {
     counts(c);
+    if n.several {
+        references(c);
+    }
     account_of(account);
     edge_columns(targets, labels, weak_from, weak_to, roots, working);
     column::offset_columns(bases, short, long_at, long_value, fields, table);

@@ -1,6 +1,6 @@
 // Builds the cases that a text names, by either route, in lent columns of exactly the rooms that each case names, and writes the whole of what came out.
 //
-// A case is a title in quotes and lists in brackets: six numbers (route 0 copied or 1 raw, keep soft, keep weak, names, base, id size), the input columns
+// A case is a title in quotes and lists in brackets: six numbers (route 0 copied or 1 raw, keep soft, keep weak, names, base, id size; a policy of 2 and 2 is every one), the input columns
 // in the order of the build's parameters, the roots, one or more sets of seventeen rooms, and three lists of questions. `n*x` stands for n times x, `n*x+d` for x, x + d, .. ,
 // and words outside brackets are remarks. The columns hold nines before a build. Of a build that is done every column is written whole, with what is behind the
 // used part, then each object's span, edges and weak targets, the answers, and the incoming side; of a refusal its number and place, and whether all that was lent is zero.
@@ -46,7 +46,7 @@ fn built<'a>(
     }
     match case::soundness(halves, words, cuts) {
         Sound::Yes => {
-            rooms::each(bytes, halves, words, cuts, case::numbers_of(words, cuts));
+            rooms::every(bytes, halves, words, cuts, case::numbers_of(words, cuts));
             next
         }
         Sound::No(why) => {

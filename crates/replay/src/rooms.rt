@@ -9,6 +9,7 @@ use case_text::arrays::EDGES;
 use case_text::arrays::NAMED;
 use case_text::arrays::room;
 use case_text::column;
+use case_text::form;
 
 // The columns of a case, each with the room that the case names.
 fn lend<'a>(bytes: &'a [u8], halves: &'a [u32], words: &'a [u64], cuts: &'a [usize], n: Numbers) {
@@ -91,13 +92,7 @@ fn first<'a>(rooms: &'a [u64]) -> &'a [u64] {
 }
 
 // The case in each of its sets of rooms.
-pub(crate) fn each<'a>(
-    bytes: &'a [u8],
-    halves: &'a [u32],
-    words: &'a [u64],
-    cuts: &'a [usize],
-    n: Numbers,
-) {
+fn each<'a>(bytes: &'a [u8], halves: &'a [u32], words: &'a [u64], cuts: &'a [usize], n: Numbers) {
     let sets = case::sets_of(words, cuts);
     let mut set = 0;
     while set < sets {
@@ -105,5 +100,38 @@ pub(crate) fn each<'a>(
         tell(words, cuts, own);
         lend(bytes, halves, words, cuts, own);
         set += 1;
+    }
+}
+
+fn flag(kept: bool) -> u64 {
+    if kept { 1 } else { 0 }
+}
+
+// Which policy is followed, where the case has several.
+fn tell_policy(n: Numbers) {
+    if !n.several {
+        return;
+    }
+    form::fill(
+        b"  policy: keep soft #, keep weak #\n",
+        &[flag(n.soft), flag(n.weak)],
+    );
+}
+
+// The case under its policy, or under every policy.
+pub(crate) fn every<'a>(
+    bytes: &'a [u8],
+    halves: &'a [u32],
+    words: &'a [u64],
+    cuts: &'a [usize],
+    n: Numbers,
+) {
+    let policies = case::policies_of(words, cuts);
+    let mut policy = 0;
+    while policy < policies {
+        let own = case::with_policy(n, policies, policy);
+        tell_policy(own);
+        each(bytes, halves, words, cuts, own);
+        policy += 1;
     }
 }
