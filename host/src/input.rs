@@ -172,6 +172,22 @@ pub struct ReferencePolicy {
     pub weak: bool,
 }
 
+impl ReferencePolicy {
+    /// The four policies: those that keep neither, soft, weak, both.
+    pub const ALL: [ReferencePolicy; 4] = [
+        ReferencePolicy { soft: false, weak: false },
+        ReferencePolicy { soft: true, weak: false },
+        ReferencePolicy { soft: false, weak: true },
+        ReferencePolicy { soft: true, weak: true },
+    ];
+
+    /// Whether this policy keeps whatever the other one keeps. Then each object's edges under the other are among those under this
+    /// one, in the same order: keeping more never removes an edge.
+    pub fn covers(self, other: ReferencePolicy) -> bool {
+        (self.soft || !other.soft) && (self.weak || !other.weak)
+    }
+}
+
 /// All that a build reads.
 #[derive(Clone, Copy, Debug)]
 pub struct Input<'a> {

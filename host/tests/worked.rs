@@ -24,7 +24,7 @@ fn both_routes_build_the_worked_dump() {
 
 #[test]
 fn the_account_is_the_graphs() {
-    for policy in [(false, false), (true, false), (false, true), (true, true)].map(|(soft, weak)| ReferencePolicy { soft, weak }) {
+    for policy in ReferencePolicy::ALL {
         for graph in graphs(|input| Graph::build(&Input { policy, ..input })) {
             let graph = graph.expect("a sound dump");
             let account = graph.account;

@@ -82,8 +82,17 @@ impl Case {
             schema: self.schema(),
             references,
             roots: &self.roots,
-            policy: ReferencePolicy { soft: self.soft, weak: self.weak },
+            policy: self.policy(),
         }
+    }
+
+    pub fn under(mut self, policy: ReferencePolicy) -> Case {
+        (self.soft, self.weak) = (policy.soft, policy.weak);
+        self
+    }
+
+    pub fn policy(&self) -> ReferencePolicy {
+        ReferencePolicy { soft: self.soft, weak: self.weak }
     }
 
     pub fn slots_of(&self, class: usize) -> std::ops::Range<usize> {

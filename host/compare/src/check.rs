@@ -9,6 +9,7 @@ use crate::handed;
 use crate::incoming;
 use crate::lent::{self, Outcome, Used};
 use crate::oracle;
+use crate::policies;
 use crate::random::Random;
 use crate::tally::Tally;
 use crate::verdict;
@@ -240,6 +241,9 @@ pub fn route(case: &Case, route: Route, random: &mut Random, tally: &mut Tally) 
     count(&ours, tally);
     if route == Route::Copied {
         handed::of_a_build(case, &ours, random, tally)?;
+    }
+    if random.chance(4) {
+        policies::every(case, route, tally)?;
     }
     Ok(())
 }

@@ -7,7 +7,7 @@ use midden::dump::{Dump, Kind};
 use midden::graph as original;
 use midden::hprof::{self, Body, Reader, Sink};
 use midden::source::Source;
-use yokefathom::{ARRAY_ELEMENT, Graph, LOADER};
+use yokefathom::{ARRAY_ELEMENT, Graph, LOADER, ReferencePolicy};
 
 use crate::case::{Case, ROUTES, Route};
 use crate::check::{self, same};
@@ -16,6 +16,7 @@ use crate::handed;
 use crate::incoming;
 use crate::lent::Outcome;
 use crate::oracle;
+use crate::policies;
 use crate::random::Random;
 use crate::tally::Tally;
 use crate::verdict;
@@ -142,7 +143,7 @@ fn ask(ours: &Graph, theirs: &original::Graph, names: usize, random: &mut Random
 }
 
 /// One route under one policy: the account by the rules, every column, the questions, the incoming side.
-fn route(imported: &Imported, route: Route, random: &mut Random, tally: &mut Tally) -> Outcome {
+fn route(imported: &Imported, route: Route, random: &mut Random, tally: &mut Tally) -> Result<Graph, String> {
     let case = &imported.case;
     same("refusal", verdict::refusal(case, route), None)?;
     let ours = Graph::build(&case.input(route)).map_err(|e| e.to_string())?;
@@ -159,15 +160,15 @@ fn route(imported: &Imported, route: Route, random: &mut Random, tally: &mut Tal
     if route == Route::Copied {
         handed::compare(case, &handed::plain(&ours).lent(), random, tally)?;
     }
-    let policy = yokefathom::ReferencePolicy { soft: case.soft, weak: case.weak };
     println!(
-        "{route:?}, {policy:?}: {} edges, {} weak pairs, {} dangling\n{}",
+        "{route:?}, {:?}: {} edges, {} weak pairs, {} dangling\n{}",
+        case.policy(),
         ours.edge_count(),
         ours.weak_edges().len(),
         ours.dangling,
         ours.account
     );
-    Ok(())
+    Ok(ours)
 }
 
 /// The whole of a dump file; how many differences there are.
@@ -184,14 +185,23 @@ pub fn run(path: &str, tally: &mut Tally) -> u64 {
         case.roots.len()
     );
     let mut differences = 0;
-    for policy in 0..4 {
-        let case = &mut imported.case;
-        (case.soft, case.weak, case.threads) = (policy & 1 == 1, policy & 2 == 2, policy + 1);
-        for by in ROUTES {
-            if let Err(difference) = route(&imported, by, &mut Random::new(policy as u64), tally) {
-                println!("{by:?}, policy {policy}: {difference}");
-                differences += 1;
-            }
+    for by in ROUTES {
+        let graphs: Vec<Graph> = (1..)
+            .zip(ReferencePolicy::ALL)
+            .filter_map(|(threads, policy)| {
+                let case = &mut imported.case;
+                (case.soft, case.weak, case.threads) = (policy.soft, policy.weak, threads);
+                let built = route(&imported, by, &mut Random::new(threads as u64 - 1), tally);
+                built.inspect_err(|difference| println!("{by:?}, {policy:?}: {difference}")).ok()
+            })
+            .collect();
+        let compared = graphs.len();
+        differences += 4 - compared as u64;
+        if let Ok(graphs) = graphs.try_into()
+            && let Err(difference) = policies::agree(&imported.case, &graphs, tally)
+        {
+            println!("{by:?}, the policies: {difference}");
+            differences += 1;
         }
     }
     differences

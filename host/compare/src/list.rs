@@ -2,15 +2,16 @@
 use std::path::Path;
 use std::{fs, io};
 
-use yokefathom::{ARRAY_ELEMENT, LOADER};
+use yokefathom::{ARRAY_ELEMENT, LOADER, ReferencePolicy};
 
 use crate::case::{Case, ROUTES, Route};
 use crate::check;
 use crate::oracle;
+use crate::policies;
 use crate::random::Random;
 use crate::small::worked;
 use crate::tally::Tally;
-use crate::text::{self, Questions, Rooms};
+use crate::text::{self, Questions, Rooms, Under};
 use crate::verdict;
 
 const ESCAPED: u32 = u32::MAX;
@@ -34,11 +35,6 @@ impl Case {
     fn holds(&mut self, id: u64, kind: u8, class: u32, ids: &[u64]) {
         let body = body(ids, self.id_size);
         self.object(id, kind, class, &body);
-    }
-
-    fn under(mut self, soft: bool, weak: bool) -> Case {
-        (self.soft, self.weak) = (soft, weak);
-        self
     }
 
     fn copied(mut self, base: u64) -> Case {
@@ -230,14 +226,6 @@ fn accepted() -> Vec<(String, Case)> {
     let mut add = |title: &str, case: Case| all.push((title.to_string(), case));
     add("no objects", empty(0, 8));
     add("no objects, two names and a class", empty(2, 8).but(|case| case.class(8, 8, true, 0, &[(0, 1, false)], &[(0, 2, 8)])));
-    for (soft, weak, title) in
-        [(false, false, "keeps neither"), (true, false, "keeps soft"), (false, true, "keeps weak"), (true, true, "keeps both")]
-    {
-        add(&format!("worked dump, {title}"), worked().under(soft, weak));
-        add(&format!("reference kinds, {title}"), kinds().under(soft, weak));
-    }
-    add("weak pairs that fall and repeat", weak_pairs());
-    add("weak pairs kept", weak_pairs().under(false, true));
     add("missing ids, no loader", missing(0));
     add("missing ids, loader found", missing(32));
     add("missing ids, loader missing", missing(33));
@@ -265,6 +253,17 @@ fn accepted() -> Vec<(String, Case)> {
     add("an object that holds itself, and is held three times", repeats());
     add("65537 edges of one object", wide(65_537, 2));
     all
+}
+
+/// Cases that are accepted, by both routes, under every policy.
+fn every_policy() -> Vec<(&'static str, Case)> {
+    vec![
+        ("worked dump", worked()),
+        ("reference kinds", kinds()),
+        ("weak pairs that fall and repeat", weak_pairs()),
+        ("missing ids", missing(32)),
+        ("shared slots", shared()),
+    ]
 }
 
 /// Cases that are refused, with the routes that show it.
@@ -361,6 +360,15 @@ fn room(case: &Case, route: Route, at: usize) -> Rooms {
     needs.map(|need| need + usize::from(at.is_multiple_of(3)))
 }
 
+/// Room for the case under every policy.
+fn room_for_all(case: &Case, route: Route) -> Rooms {
+    let needs = ReferencePolicy::ALL.map(|policy| {
+        let case = case.clone().under(policy);
+        text::needs(&case, route, &oracle::build(&case, route))
+    });
+    std::array::from_fn(|at| needs.iter().map(|rooms| rooms[at]).max().unwrap_or(0))
+}
+
 /// The worked dump in exact room, and then with each column one number short.
 fn rooms(route: Route) -> Vec<Rooms> {
     let case = worked();
@@ -388,21 +396,28 @@ pub fn write(folder: &Path) -> io::Result<()> {
     let mut asks = before(&asked, HEAD) + HEAD + "\n\n";
     let mut answers = before(&answered, FIRST);
     let mut count = 0;
-    let mut add = |title: &str, case: &Case, route: Route, rooms: &[Rooms], asked: &Questions| {
+    let mut add = |title: &str, case: &Case, under: Under, route: Route, rooms: &[Rooms], asked: &Questions| {
         let title = format!("{title}, {}", if route == Route::Copied { "copied" } else { "raw" });
-        asks += &text::input(&title, case, route, rooms, asked);
-        answers += &text::output(&title, case, route, rooms, asked);
+        asks += &text::input(&title, case, under, route, rooms, asked);
+        answers += &text::output(&title, case, under, route, rooms, asked);
         count += 1;
     };
     for (at, (title, case)) in accepted().iter().enumerate() {
         for route in ROUTES {
             assert_eq!(verdict::refusal(case, route), None, "{title}");
             agree(case, route)?;
-            add(title, case, route, &[room(case, route, at)], &questions(case, route));
+            add(title, case, Under::Own, route, &[room(case, route, at)], &questions(case, route));
+        }
+    }
+    for (title, case) in every_policy() {
+        for route in ROUTES {
+            policies::every(&case, route, &mut Tally::default()).map_err(io::Error::other)?;
+            let all = case.clone().under(ReferencePolicy { soft: true, weak: true });
+            add(&format!("{title}, every policy"), &case, Under::Every, route, &[room_for_all(&case, route)], &questions(&all, route));
         }
     }
     for route in ROUTES {
-        add("worked dump, each column one number short", &worked(), route, &rooms(route), &Questions::default());
+        add("worked dump, each column one number short", &worked(), Under::Own, route, &rooms(route), &Questions::default());
     }
     for (title, case, routes) in refused() {
         for route in routes {
@@ -411,7 +426,7 @@ pub fn write(folder: &Path) -> io::Result<()> {
             if lent[0] > 0 {
                 agree(&case, route)?;
             }
-            add(&title, &case, route, &[lent], &Questions::default());
+            add(&title, &case, Under::Own, route, &[lent], &Questions::default());
         }
     }
     println!("{count} cases, {} bytes of input, {} bytes of answers", asks.len(), answers.len());

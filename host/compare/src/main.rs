@@ -28,6 +28,7 @@ mod lent;
 mod list;
 mod memory;
 mod oracle;
+mod policies;
 mod random;
 mod small;
 mod tally;

@@ -18,6 +18,8 @@ pub struct Tally {
     pub incoming: u64,
     pub incoming_long: u64,
     pub incoming_refused: [u64; 13],
+    /// Cases of one route that were built under every policy, and found to have the same references.
+    pub policies: u64,
     pub questions: u64,
     pub edges: u64,
     pub weak: u64,
@@ -76,6 +78,7 @@ impl fmt::Display for Tally {
             self.incoming_long,
             counts(&self.incoming_refused)
         )?;
+        writeln!(f, "built under all four policies, with the same references: {}", self.policies)?;
         writeln!(f, "questions: {} ({} of them asked the name count)", self.questions, self.name_count)?;
         writeln!(f, "builds refused, by number: {}", counts(&self.refused))?;
         writeln!(f, "from_parts refused, by number: {}; PARTS by column: {}", counts(&self.handed), counts(&self.columns))?;

@@ -3,7 +3,7 @@
 use std::fmt::{Display, Write};
 
 use midden::graph::Graph;
-use yokefathom::{ARRAY_ELEMENT, LOADER};
+use yokefathom::{ARRAY_ELEMENT, LOADER, ReferencePolicy};
 
 use crate::case::{Case, Route};
 use crate::incoming::Plain;
@@ -27,6 +27,13 @@ pub struct Questions {
     pub field: Vec<(u32, u32)>,
     pub referent: Vec<(u32, u32)>,
     pub label_of: Vec<(u32, u32)>,
+}
+
+/// Under which policies a case is built: its own, or every one.
+#[derive(Clone, Copy, Debug, PartialEq, Eq)]
+pub enum Under {
+    Own,
+    Every,
 }
 
 /// Numbers in order, each behind a space; eight and more that rise by the same step are written as one.
@@ -61,10 +68,11 @@ fn pairs(out: &mut String, name: &str, asked: &[(u32, u32)]) {
 }
 
 /// A case as the program reads it.
-pub fn input(title: &str, case: &Case, route: Route, rooms: &[Rooms], asked: &Questions) -> String {
+pub fn input(title: &str, case: &Case, under: Under, route: Route, rooms: &[Rooms], asked: &Questions) -> String {
     let mut out = format!("\"{title}\"\n");
     let (base, size) = if route == Route::Copied { (case.base, 0) } else { (0, case.id_size as u64) };
-    let head = [route as u64, u64::from(case.soft), u64::from(case.weak), case.names as u64, base, size];
+    let (soft, weak) = if under == Under::Every { (2, 2) } else { (u64::from(case.soft), u64::from(case.weak)) };
+    let head = [route as u64, soft, weak, case.names as u64, base, size];
     list(&mut out, "numbers", &head);
     out += "\n";
     list(&mut out, "ids", &case.ids);
@@ -268,7 +276,7 @@ fn incoming(out: &mut String, graph: &Graph) {
     line(out, format_args!("held {}: {none} first {none}", graph.root));
 }
 
-fn done(out: &mut String, case: &Case, route: Route, graph: &Graph, rooms: &Rooms, asked: &Questions) {
+fn done(out: &mut String, case: &Case, under: Under, route: Route, graph: &Graph, rooms: &Rooms, asked: &Questions) {
     let (needs, dangling) = (needs(case, route, graph), graph.dangling);
     let [_, _, weak, _, roots, _, _, _, long, _, fields, _, escapes, _, edges_in_all, ..] = needs;
     line(
@@ -277,6 +285,9 @@ fn done(out: &mut String, case: &Case, route: Route, graph: &Graph, rooms: &Room
             "done: edges {edges_in_all}, weak {weak}, roots {roots}, long {long}, fields {fields}, escapes {escapes}, dangling {dangling}"
         ),
     );
+    if under == Under::Every {
+        line(out, format_args!("references: edges {edges_in_all} + weak {weak} = {}, dangling {dangling}", edges_in_all + weak));
+    }
     let rows = verdict::account(case, route).kinds().map(|(kind, row)| format!("{kind} {} {} {}", row.edges, row.weak, row.missing));
     line(out, format_args!("account: {}", rows.join(", ")));
     columns(out, graph, rooms);
@@ -299,25 +310,39 @@ fn short(rooms: &Rooms, needs: &Rooms) -> Option<u64> {
 }
 
 /// What has to come out.
-pub fn output(title: &str, case: &Case, route: Route, rooms: &[Rooms], asked: &Questions) -> String {
+pub fn output(title: &str, case: &Case, under: Under, route: Route, rooms: &[Rooms], asked: &Questions) -> String {
     let mut out = format!("{title}\n");
-    let refusal = verdict::refusal(case, route);
-    let places = if refusal.is_none() { verdict::places(case, route) as usize } else { 0 };
-    for set in rooms {
-        if rooms.len() > 1 {
-            line(&mut out, format_args!("rooms{}", lengths(set)));
-        }
-        // Places at the limit are not built: they would take gigabytes.
-        match refusal.or((set[0].min(set[1]) < places).then_some((9, 1))) {
-            Some((number, place)) => refused(&mut out, number, place),
-            None => {
-                let graph = oracle::build(case, route);
-                match short(set, &needs(case, route, &graph)) {
-                    Some(buffer) => refused(&mut out, 9, buffer),
-                    None => done(&mut out, case, route, &graph, set, asked),
-                }
+    match under {
+        Under::Own => each_room(&mut out, case, under, route, rooms, asked),
+        Under::Every => {
+            for policy in ReferencePolicy::ALL {
+                let [soft, weak] = [policy.soft, policy.weak].map(u64::from);
+                line(&mut out, format_args!("policy: keep soft {soft}, keep weak {weak}"));
+                each_room(&mut out, &case.clone().under(policy), under, route, rooms, asked);
             }
         }
     }
     out
+}
+
+/// The case under its policy, in each of its rooms.
+fn each_room(out: &mut String, case: &Case, under: Under, route: Route, rooms: &[Rooms], asked: &Questions) {
+    let refusal = verdict::refusal(case, route);
+    let places = if refusal.is_none() { verdict::places(case, route) as usize } else { 0 };
+    for set in rooms {
+        if rooms.len() > 1 {
+            line(out, format_args!("rooms{}", lengths(set)));
+        }
+        // Places at the limit are not built: they would take gigabytes.
+        match refusal.or((set[0].min(set[1]) < places).then_some((9, 1))) {
+            Some((number, place)) => refused(out, number, place),
+            None => {
+                let graph = oracle::build(case, route);
+                match short(set, &needs(case, route, &graph)) {
+                    Some(buffer) => refused(out, 9, buffer),
+                    None => done(out, case, under, route, &graph, set, asked),
+                }
+            }
+        }
+    }
 }
