@@ -201,6 +201,14 @@ impl Graph {
         values(&answer).map(|rows| &self.weak_to[rows[0] as usize..rows[1] as usize])
     }
 
+    /// Whatever `object` refers to: the targets of its edges and weak pairs together, sorted, with repeats. They are the same under every
+    /// policy.
+    pub fn reached(&self, object: u32) -> Result<Vec<u32>, Refusal> {
+        let mut targets = [self.edges(object)?.targets(), self.weak_referents(object)?].concat();
+        targets.sort_unstable();
+        Ok(targets)
+    }
+
     /// Pairs of object and target left out of the graph proper, sorted.
     pub fn weak_edges(&self) -> impl ExactSizeIterator<Item = (u32, u32)> + '_ {
         self.weak_from.iter().copied().zip(self.weak_to.iter().copied())

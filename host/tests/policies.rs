@@ -48,14 +48,6 @@ fn edges(graph: &Graph, object: u32) -> Vec<(u32, u32)> {
     graph.edges(object).expect("an object").iter().collect()
 }
 
-/// The targets of an object's edges and weak pairs together, sorted, with repeats.
-fn reached(graph: &Graph, object: u32) -> Vec<u32> {
-    let weak = graph.weak_referents(object).expect("an object");
-    let mut targets = [graph.edges(object).expect("an object").targets(), weak].concat();
-    targets.sort_unstable();
-    targets
-}
-
 fn objects(graph: &Graph) -> std::ops::Range<u32> {
     0..graph.object_count() as u32
 }
@@ -71,7 +63,7 @@ fn no_policy_loses_a_reference() {
                 assert_eq!((row.edges + row.weak, row.missing), (same.edges + same.weak, same.missing), "{kind}");
             }
             for object in objects(graph) {
-                assert_eq!(reached(graph, object), reached(first, object), "object {object}");
+                assert_eq!(graph.reached(object).expect("an object"), first.reached(object).expect("an object"), "object {object}");
             }
         }
     }

@@ -12,14 +12,6 @@ fn edges(graph: &Graph, object: u32) -> Result<Vec<(u32, u32)>, String> {
     Ok(graph.edges(object).map_err(|e| e.to_string())?.iter().collect())
 }
 
-/// The targets of an object's edges and weak pairs together, sorted, with repeats.
-fn reached(graph: &Graph, object: u32) -> Result<Vec<u32>, String> {
-    let (edges, weak) = (graph.edges(object).map_err(|e| e.to_string())?, graph.weak_referents(object).map_err(|e| e.to_string())?);
-    let mut targets = [edges.targets(), weak].concat();
-    targets.sort_unstable();
-    Ok(targets)
-}
-
 /// Whether the first list is the second with some left out.
 fn subsequence<T: PartialEq>(fewer: &[T], all: &[T]) -> bool {
     let mut rest = all.iter();
@@ -43,7 +35,7 @@ fn pair(case: &Case, fewer: &Graph, all: &Graph) -> Outcome {
     same("roots", &fewer.roots, &all.roots)?;
     for object in 0..fewer.object_count() {
         let at = object as u32;
-        same(&format!("what object {object} reaches"), reached(fewer, at)?, reached(all, at)?)?;
+        same(&format!("what object {object} reaches"), fewer.reached(at), all.reached(at))?;
         let (less, more) = (edges(fewer, at)?, edges(all, at)?);
         if !has_weak_slot(case, object) {
             same(&format!("edges of object {object}, of a class without a weak slot"), &less, &more)?;
