@@ -2,23 +2,24 @@
 use Prim.Native.Nat.{ℕ, _+_, _≤_, _<_}
 use native.Mathlib.Omega.{arith}
 use mathlib.Core.Path.{_≡_, refl, sym, ap, _∙_}
-use mathlib.Core.Bool.{true, false, not, false≢true}
+use mathlib.Core.Bool.{Bool, true, false, cond, not, false≢true}
 use mathlib.Core.List.{List, [], _∷_, _++_, map}
-use lib.Dec.{eqb, ltb}
+use lib.Dec.{ltb}
 use lib.ListN.{length, set, take, drop, length-map, length-set, take-append-drop}
 use lib.Seq.{ext-getD, getD-take, getD-set-same, getD-set-other, length-take-le}
 use borrow.Author.Count.{below-more}
-use borrow.Author.Tests.{lt-ltb, le-ltb}
-use Rattle.columns.specs.Lists.{_!_, places, firstPlace, anyOf}
+use borrow.Author.Tests.{lt-ltb, le-ltb, ltb-false}
+use Rattle.columns.specs.Lists.{_!_, places, firstPlace}
 use Rattle.columns.specs.Columns.{over, cleared, accepts, leaves, kept, Begins}
 use Rattle.columns.proofs.Lists.{map-at, first-hit}
-use Rattle.columns.proofs.Tests.{no-places}
+use Rattle.columns.proofs.Tests.{no-places, none-of}
 use Rattle.columns.proofs.Written.{settled-column, leaves-zeros, zeroed}
 use Rattle.rules.specs.Questions.{Columns}
 use Rattle.rules.specs.Each.{targetSaid, foundSaid, firstRefused, eachSays, eachLeft}
 use Rattle.ask_short.specs.Lean.{shortly}
-use Rattle.ask_each.specs.Listed.{asks, leftEach, refusedAt, targetAt, foundAt, Told, Asking, Onward, Asked, EachSettled}
-use Rattle.ask_each.proofs.Offsets.{told-less}
+use Rattle.ask_each.specs.Listed.{asks, leftEach, refusedAt, targetAt, foundAt, Told, Asking, Onward, Asked}
+use Rattle.ask_each_rows.specs.Rows.{lacking, Row, atPosition, EachSettled}
+use Rattle.ask_each_spans.proofs.Offsets.{told-less}
 
 -- a column that has the list's numbers at its positions begins with them
 begins-listed : (g : ℕ → ℕ) (os d : List ℕ) → length os ≤ length d → ((j : ℕ) → j < length os → d ! j ≡ g (os ! j)) → Begins (map g os) d
@@ -30,6 +31,12 @@ begins-listed g os d within h =
 begins-over : (xs d : List ℕ) → Begins xs d → d ≡ over xs d
 unfolding over
 begins-over xs d h = sym (take-append-drop (length xs) d) ∙ ap (λ (ys : List ℕ). ys ++ drop (length xs) d) h
+
+-- two columns that are no shorter than the list
+pub room-for : (n a b : ℕ) → lacking n a b ≡ false → (n ≤ a) × (n ≤ b)
+room-for n a b e =
+    let h = none-of (ltb a n ∷ ltb b n ∷ []) e in
+    (ltb-false a n (h 0), ltb-false b n (h 1))
 
 -- one row more
 rows-more : (g : ℕ → ℕ) (d : List ℕ) (i v : ℕ) → i < length d → ((j : ℕ) → j < i → d ! j ≡ g j) → v ≡ g i → (j : ℕ) → j < i + 1 → set d i v ! j ≡ g j
@@ -80,28 +87,37 @@ module _ (c : Columns) (l : ℕ) (os : List ℕ) where
           same-found = length-set m i (foundSaid says) ∙ w .same-found;
         }
 
-    pub onward-found : {x : ℕ} → f (os ! i) ≡ 0 ∷ x ∷ [] → i < length os → length os ≤ length t₀ → length os ≤ length m₀ → Onward c l os from t₀ m₀ (set t i x) (set m i 1) (i + 1)
-    unfolding accepts
-    onward-found e there in-t in-m = onward-more e refl there in-t in-m
+    -- a row that was written, and one that was refused
+    pub onward-row : {says t′ m′ : List ℕ} {done : Bool} → Row says i t m done t′ m′ → done ≡ true → f (os ! i) ≡ says → i < length os → length os ≤ length t₀ → length os ≤ length m₀
+        → Onward c l os from t₀ m₀ t′ m′ (i + 1)
+    onward-row {says} {t′} {m′} r d e there in-t in-m =
+        let ok : accepts says ≡ true = sym (r .answer) ∙ d in
+        let is-t : t′ ≡ set t i (targetSaid says) = r .targets ∙ ap (λ (b : Bool). cond b (set t i (targetSaid says)) t) ok in
+        let is-m : m′ ≡ set m i (foundSaid says) = r .found ∙ ap (λ (b : Bool). cond b (set m i (foundSaid says)) m) ok in
+        rw (is-t, is-m) (onward-more e ok there in-t in-m)
 
-    pub onward-nothing : f (os ! i) ≡ 0 ∷ [] → i < length os → length os ≤ length t₀ → length os ≤ length m₀ → Onward c l os from t₀ m₀ (set t i 0) (set m i 0) (i + 1)
-    unfolding accepts
-    onward-nothing e there in-t in-m = onward-more e refl there in-t in-m
+    pub onward-kept : {says t′ m′ : List ℕ} {done : Bool} → Row says i t m done t′ m′ → done ≡ false → Onward c l os from t₀ m₀ t′ m′ i
+    onward-kept {says} {t′} {m′} r d =
+        let no : accepts says ≡ false = sym (r .answer) ∙ d in
+        let is-t : t′ ≡ t = r .targets ∙ ap (λ (b : Bool). cond b (set t i (targetSaid says)) t) no in
+        let is-m : m′ ≡ m = r .found ∙ ap (λ (b : Bool). cond b (set m i (foundSaid says)) m) no in
+        rw (is-t, is-m) w
 
     not-refused : (j : ℕ) → j < i → refusedAt f os j ≡ false
     not-refused j h = ap not (w .asking .none j h)
 
     -- the answer is the refusal's number and the position
-    pub onward-refused : {k x : ℕ} → f (os ! i) ≡ k ∷ x ∷ [] → eqb k 0 ≡ false → i < length os → Asked f os (k ∷ i ∷ []) t₀ m₀ t m
+    pub onward-refused : {says says′ : List ℕ} → f (os ! i) ≡ says → accepts says ≡ false → says′ ≡ atPosition says i → i < length os → Asked f os says′ t₀ m₀ t m
     unfolding accepts firstRefused
-    onward-refused {k} {x} e not-0 there =
-        let bad : refusedAt f os i ≡ true = ap (λ (s : List ℕ). not (accepts s)) e ∙ ap not not-0 in
+    onward-refused {says} {says′} e refused told there =
+        let bad : refusedAt f os i ≡ true = ap (λ (s : List ℕ). not (accepts s)) e ∙ ap not refused in
         let is : firstPlace (refusedAt f os) (length os) ≡ i = first-hit (refusedAt f os) i (length os) (no-places (refusedAt f os) i not-refused) bad there in
+        let none : accepts says′ ≡ false = ap accepts told ∙ refused in
         record {
-          answer = rw (is, lt-ltb i (length os) there, e);
-          all = λ ok. absurd (false≢true (sym not-0 ∙ ok));
-          targets = λ ok. absurd (false≢true (sym not-0 ∙ ok));
-          found = λ ok. absurd (false≢true (sym not-0 ∙ ok));
+          answer = told ∙ rw (is, lt-ltb i (length os) there, e);
+          all = λ ok. absurd (false≢true (sym none ∙ ok));
+          targets = λ ok. absurd (false≢true (sym none ∙ ok));
+          found = λ ok. absurd (false≢true (sym none ∙ ok));
           same-targets = w .same-targets;
           same-found = w .same-found;
         }
@@ -136,7 +152,7 @@ module _ (f : ℕ → List ℕ) (os : List ℕ) where
 
   module _ (t₀ m₀ : List ℕ) where
     -- an output shorter than the list
-    pub each-room : {says t m : List ℕ} → anyOf (ltb (length t₀) (length os) ∷ ltb (length m₀) (length os) ∷ []) ≡ true → EachSettled (9 ∷ 12 ∷ []) says t₀ m₀ t m
+    pub each-room : {says t m : List ℕ} → lacking (length os) (length t₀) (length m₀) ≡ true → EachSettled (9 ∷ 12 ∷ []) says t₀ m₀ t m
         → leftEach says t m ≡ eachLeft f os (length t₀) (length m₀)
     unfolding eachSays kept accepts
     each-room {says} {t} {m} few s =
@@ -145,11 +161,11 @@ module _ (f : ℕ → List ℕ) (os : List ℕ) where
         left-is (length t₀) (length m₀) is (leaves-zeros says (map (λ o. targetSaid (f o)) os) (length t₀) no (zeroed t₀ (s .targets))) (leaves-zeros says (map (λ o. foundSaid (f o)) os) (length m₀) no (zeroed m₀ (s .found)))
 
     -- room for all: what was asked, settled
-    pub each-asked : {t₁ m₁ t₂ m₂ says says′ t m : List ℕ} → length os ≤ length t₀ → length os ≤ length m₀ → length t₁ ≡ length t₀ → length m₁ ≡ length m₀
+    pub each-asked : {t₁ m₁ t₂ m₂ says says′ t m : List ℕ} → lacking (length os) (length t₀) (length m₀) ≡ false → length t₁ ≡ length t₀ → length m₁ ≡ length m₀
         → Asked f os says t₁ m₁ t₂ m₂ → EachSettled says says′ t₂ m₂ t m → leftEach says′ t m ≡ eachLeft f os (length t₀) (length m₀)
-    unfolding eachSays anyOf
-    each-asked {t₁} {m₁} {t₂} {m₂} {says} {says′} {t} {m} in-t in-m same-t same-m a s =
-        let is : says ≡ eachSays f os (length t₀) (length m₀) = a .answer ∙ rw (le-ltb (length t₀) (length os) in-t, le-ltb (length m₀) (length os) in-m) in
+    unfolding eachSays
+    each-asked {t₁} {m₁} {t₂} {m₂} {says} {says′} {t} {m} enough same-t same-m a s =
+        let is : says ≡ eachSays f os (length t₀) (length m₀) = a .answer ∙ rw enough in
         ap (λ (z : List ℕ). leftEach z t m) (s .answer)
         ∙ left-is (length t₀) (length m₀) is
         (settled (λ o. targetSaid (f o)) says t₂ t₀ (a .targets) (a .all) (s .targets) (a .same-targets ∙ same-t))

@@ -1,21 +1,19 @@
 // A field of each object of a list, into two lent columns. First the spans of all objects are read, then their codes: so the reads of one object do not wait for
 // those of another. Codes are compared with the label's own, where there is one; whatever leaves a doubt is asked as a single question.
+// The code of a label, the spans and the rows are found, told and written in crates of their own.
 mod codes;
-mod spans;
 
-use codes::SoleCode;
+use ask_each_codes::SoleCode;
 use rules::EachField;
-use rules::Field;
 ghost use mathlib.Core.Path.{_≡_};
 ghost use Prim.Native.Nat.{_≤_};
 ghost use lib.ListN.{length};
 ghost use Rattle.columns.specs.Loans.{entry, exit};
-ghost use Rattle.columns.specs.Columns.{kept};
 ghost use Rattle.rules.specs.Types.{eachFieldSays};
 ghost use Rattle.rules.specs.Each.{eachLeft};
 ghost use Rattle.ask_span.specs.Graph.{edgeColumns};
 ghost use Rattle.ask_short.specs.Lean.{shortOf};
-ghost use Rattle.ask_each.specs.Listed.{Sole, Told, Asking, Onward, asks, Asked, EachSettled, leftEach};
+ghost use Rattle.ask_each.specs.Listed.{Sole, Told, Asking, Onward, asks, Asked, leftEach};
 
 // Answers by the codes from a position on, up to the first that leaves a doubt: its position.
 fn run(
@@ -49,7 +47,7 @@ fn run(
         let start = own_targets[i] as usize;
         let count = found[i] as usize;
         let object = objects[i] as usize;
-        match codes::by_codes(
+        let answer = codes::by_codes(
             bases,
             short,
             edge_codes,
@@ -60,23 +58,12 @@ fn run(
             sole,
             start,
             count,
-        ) {
-            Field::Target(t) => {
-                own_targets[i] = t;
-                found[i] = 1;
-                i += 1;
-            }
-            Field::Nothing => {
-                own_targets[i] = 0;
-                found[i] = 0;
-                i += 1;
-            }
-            Field::Index(_) => {
-                return i;
-            }
-            Field::Columns(_) => {
-                return i;
-            }
+        );
+        let done = ask_each_rows::row(answer, i, own_targets, found);
+        if done {
+            i += 1;
+        } else {
+            return i;
         }
     }
     i
@@ -127,7 +114,7 @@ fn ask(
         );
         if at < objects.len() {
             let object = objects[at] as usize;
-            match ask_field::field(
+            let answer = ask_field::field(
                 bases,
                 short,
                 long_at,
@@ -139,50 +126,18 @@ fn ask(
                 escape_label,
                 object,
                 label,
-            ) {
-                Field::Target(t) => {
-                    own_targets[at] = t;
-                    found[at] = 1;
-                    i = at + 1;
-                }
-                Field::Nothing => {
-                    own_targets[at] = 0;
-                    found[at] = 0;
-                    i = at + 1;
-                }
-                Field::Index(_) => {
-                    return EachField::Index(at);
-                }
-                Field::Columns(_) => {
-                    return EachField::Columns(at);
-                }
+            );
+            let done = ask_each_rows::row(answer, at, own_targets, found);
+            if done {
+                i = at + 1;
+            } else {
+                return ask_each_rows::refusal(answer, at);
             }
         } else {
             i = at;
         }
     }
     EachField::Done(i)
-}
-
-fn each_kept(answer: EachField) -> usize
-    ensures { λ r. ⌜ r ≡ kept 1 (eachFieldSays answer) ⌝ }
-{
-    match answer {
-        EachField::Done(n) => n,
-        EachField::Room(_) => 0,
-        EachField::Index(_) => 0,
-        EachField::Columns(_) => 0,
-    }
-}
-
-// Clears the ends behind the answers that are kept, which is all after a refusal.
-fn settle(answer: EachField, own_targets: &mut [u32], found: &mut [u8]) -> EachField
-    ensures { λ r. ⌜ EachSettled (eachFieldSays answer) (eachFieldSays r) (entry «own_targets») (entry found) (exit «own_targets») (exit found) ⌝ }
-{
-    let end = each_kept(answer);
-    columns::zero_u32(own_targets, end);
-    columns::zero_u8(found, end);
-    answer
 }
 
 // A field of each object of a list: its target and the mark 1, or 0 and 0 where it has none, at the object's position in the list. A refusal gives the position,
@@ -206,15 +161,13 @@ pub fn field(
         let graph = edgeColumns entry bases short «long_at» «long_value» «edge_codes» targets fields «escape_at» «escape_label» in
         leftEach (eachFieldSays r) (exit «own_targets») (exit found) ≡ eachLeft (asks graph label) (entry objects) (length (entry «own_targets»)) (length (entry found))) ⌝ }
 {
-    if own_targets.len() < objects.len() {
-        return settle(EachField::Room(12), own_targets, found);
+    let lacks = ask_each_rows::lacks_room(objects.len(), own_targets.len(), found.len());
+    if lacks {
+        return ask_each_rows::settle(EachField::Room(12), own_targets, found);
     }
-    if found.len() < objects.len() {
-        return settle(EachField::Room(12), own_targets, found);
-    }
-    let end = spans::limit(edge_codes.len(), targets.len());
-    spans::spans(bases, short, end, objects, own_targets, found);
-    let code = codes::sole(fields, label, objects.len());
+    let end = ask_each_spans::limit(edge_codes.len(), targets.len());
+    ask_each_spans::spans(bases, short, end, objects, own_targets, found);
+    let code = ask_each_codes::sole(fields, label, objects.len());
     let answer = ask(
         bases,
         short,
@@ -231,5 +184,5 @@ pub fn field(
         own_targets,
         found,
     );
-    settle(answer, own_targets, found)
+    ask_each_rows::settle(answer, own_targets, found)
 }

@@ -1,15 +1,14 @@
 -- `ask_each::ask` meets its contract: the answers below i stand in the columns, and behind them the spans of the others. Assumes nothing.
 use Prim.Native.Nat.{ℕ, _-_}
-use mathlib.Core.Path.{refl, sym, ap, _∙_}
+use mathlib.Core.Path.{sym, _∙_}
 use mathlib.Core.List.{List}
 use native.Mathlib.Omega.{arith}
 use lib.ListN.{length}
 use denote.Ref.{now}
-use Rattle.rules.specs.Types.{fieldSays}
 use Rattle.rules.specs.Questions.{Columns}
 use Rattle.ask_span.specs.Graph.{edgeColumns}
 use Rattle.ask_each.specs.Listed.{Onward}
-use Rattle.ask_each.proofs.Answers.{asking-start, onward-on, onward-found, onward-nothing, onward-refused, onward-end}
+use Rattle.ask_each.proofs.Answers.{asking-start, onward-on, onward-row, onward-kept, onward-refused, onward-end}
 use borrow.Author.Needs.{needs}
 use Rattle.ask_each.proofs.ask.Statement.{statement}
 use Rattle.ask_each.proofs.ask.Tie as tie
@@ -43,96 +42,44 @@ mul-object c = omega (arith, c .if1 .taken, c .before .before .before .before .b
 cast-object : tie.Need-cast-object Inv-loop μ-loop
 cast-object c = omega (arith, c .shared-slice-known11 .given (c .before .before .before .before .before .before .run .result))
 
-mul-own-targets : tie.Need-mul-own-targets Inv-loop μ-loop
-mul-own-targets c = omega (arith, c .before .before .before .before .before .if1 .taken, c .before .before .before .before .before .before .before .before .before .before .before .before .before .before .before .before .before .before .before .before .before .before .before .before .before .before .before .good)
-
-slice-write-own-targets : tie.Need-slice-write-own-targets Inv-loop μ-loop
-slice-write-own-targets c =
-    omega (
-      arith,
-      c .before .before .before .before .before .if1 .taken,
-      c .before .before .before .before .before .before .before .before .before .before .run .ensures .same-targets,
-      c .before .before .before .before .before .before .before .before .before .before .before .before .before .before .loop .inv .same-targets,
-      c .before .before .before .before .before .before .before .before .before .before .before .before .before .before .before .before .before .before .before .before .before .before .before .before .before .before .before .pre .0 .0,
-    )
-
-slice-write-found : tie.Need-slice-write-found Inv-loop μ-loop
-slice-write-found c =
-    omega (
-      arith,
-      c .before .before .before .before .before .if1 .taken,
-      c .before .before .before .before .before .before .before .before .before .before .run .ensures .same-found,
-      c .before .before .before .before .before .before .before .before .before .before .before .before .before .before .loop .inv .same-found,
-      c .before .before .before .before .before .before .before .before .before .before .before .before .before .before .before .before .before .before .before .before .before .before .before .before .before .before .before .pre .0 .1,
-    )
+row-requires : tie.Need-row-requires Inv-loop μ-loop
+row-requires c κs =
+    let at = c .before .before .before .before .if1 .taken in
+    let r = c .before .before .before .before .before .before .before .before .before .run .ensures in
+    let h = c .before .before .before .before .before .before .before .before .before .before .before .before .before .loop .inv in
+    let p = c .before .before .before .before .before .before .before .before .before .before .before .before .before .before .before .before .before .before .before .before .before .before .before .before .before .before .pre .0 in
+    (omega (arith, at, r .same-targets, h .same-targets, p .0), omega (arith, at, r .same-found, h .same-found, p .1))
 
 add-i : tie.Need-add-i Inv-loop μ-loop
-add-i c = omega (arith, c .before .before .before .before .before .if1 .taken, c .before .before .before .before .before .before .before .before .before .before .before .before .before .before .before .before .before .before .before .before .before .before .before .before .before .before .before .good)
+add-i c = omega (arith, c .before .before .before .before .before .before .before .before .before .before .if1 .taken, c .before .before .before .before .before .before .before .before .before .before .before .before .before .before .before .before .before .before .before .before .before .before .before .before .before .before .before .before .before .before .before .before .good)
 
 loop-less : tie.Need-loop-less Inv-loop μ-loop
-loop-less c = omega (arith, c .before .before .before .before .before .if1 .taken, c .before .before .before .before .before .before .before .before .before .before .run .ensures .rises, c .before .before .before .before .before .before .before .before .before .before .before .before .before .loop-test .taken)
+loop-less c =
+    let r = c .before .before .before .before .before .before .before .before .before .before .before .before .before .before .before .run .ensures in
+    omega (arith, c .before .before .before .before .before .before .before .before .before .before .if1 .taken, r .rises, c .before .before .before .before .before .before .before .before .before .before .before .before .before .before .before .before .before .before .loop-test .taken)
 
 loop-again : tie.Need-loop-again Inv-loop μ-loop
 loop-again c =
-    let s = c .before .before .before .before .before .before .before .before .before .before .before .before .before .before .before .before .before .before .before .before .before .before .before .before .before .before .before in
-    let on = onward-on (graph s) (s .args .label) (s .args .objects .now) (c .before .before .before .before .before .before .before .before .before .before .before .before .before .before .loop .inv) (c .before .before .before .before .before .before .before .before .before .before .run .ensures) in
-    onward-found (graph s) (s .args .label) (s .args .objects .now) on (sym (c .before .before .before .field .ensures) ∙ ap fieldSays (c .before .t .given .1)) (c .before .before .before .before .before .if1 .taken) (s .pre .0 .0) (s .pre .0 .1)
-
-mul-own-targets-2 : tie.Need-mul-own-targets-2 Inv-loop μ-loop
-mul-own-targets-2 c = omega (arith, c .before .before .before .before .if1 .taken, c .before .before .before .before .before .before .before .before .before .before .before .before .before .before .before .before .before .before .before .before .before .before .before .before .before .before .good)
-
-slice-write-own-targets-2 : tie.Need-slice-write-own-targets-2 Inv-loop μ-loop
-slice-write-own-targets-2 c =
-    omega (
-      arith,
-      c .before .before .before .before .if1 .taken,
-      c .before .before .before .before .before .before .before .before .before .run .ensures .same-targets,
-      c .before .before .before .before .before .before .before .before .before .before .before .before .before .loop .inv .same-targets,
-      c .before .before .before .before .before .before .before .before .before .before .before .before .before .before .before .before .before .before .before .before .before .before .before .before .before .before .pre .0 .0,
-    )
-
-slice-write-found-2 : tie.Need-slice-write-found-2 Inv-loop μ-loop
-slice-write-found-2 c =
-    omega (
-      arith,
-      c .before .before .before .before .if1 .taken,
-      c .before .before .before .before .before .before .before .before .before .run .ensures .same-found,
-      c .before .before .before .before .before .before .before .before .before .before .before .before .before .loop .inv .same-found,
-      c .before .before .before .before .before .before .before .before .before .before .before .before .before .before .before .before .before .before .before .before .before .before .before .before .before .before .pre .0 .1,
-    )
-
-add-i-2 : tie.Need-add-i-2 Inv-loop μ-loop
-add-i-2 c = omega (arith, c .before .before .before .before .if1 .taken, c .before .before .before .before .before .before .before .before .before .before .before .before .before .before .before .before .before .before .before .before .before .before .before .before .before .before .good)
-
-loop-less-2 : tie.Need-loop-less-2 Inv-loop μ-loop
-loop-less-2 c = omega (arith, c .before .before .before .before .if1 .taken, c .before .before .before .before .before .before .before .before .before .run .ensures .rises, c .before .before .before .before .before .before .before .before .before .before .before .before .loop-test .taken)
-
-loop-again-2 : tie.Need-loop-again-2 Inv-loop μ-loop
-loop-again-2 c =
-    let s = c .before .before .before .before .before .before .before .before .before .before .before .before .before .before .before .before .before .before .before .before .before .before .before .before .before .before in
-    let on = onward-on (graph s) (s .args .label) (s .args .objects .now) (c .before .before .before .before .before .before .before .before .before .before .before .before .before .loop .inv) (c .before .before .before .before .before .before .before .before .before .run .ensures) in
-    onward-nothing (graph s) (s .args .label) (s .args .objects .now) on (sym (c .before .before .field .ensures) ∙ ap fieldSays (c .enum-told .given .1)) (c .before .before .before .before .if1 .taken) (s .pre .0 .0) (s .pre .0 .1)
+    let s = c .before .before .before .before .before .before .before .before .before .before .before .before .before .before .before .before .before .before .before .before .before .before .before .before .before .before .before .before .before .before .before .before in
+    let on = onward-on (graph s) (s .args .label) (s .args .objects .now) (c .before .before .before .before .before .before .before .before .before .before .before .before .before .before .before .before .before .before .before .loop .inv) (c .before .before .before .before .before .before .before .before .before .before .before .before .before .before .before .run .ensures) in
+    onward-row (graph s) (s .args .label) (s .args .objects .now) on (c .before .before .before .before .before .row .ensures) (c .if2 .taken) (sym (c .before .before .before .before .before .before .before .before .field .ensures)) (c .before .before .before .before .before .before .before .before .before .before .if1 .taken) (s .pre .0 .0) (s .pre .0 .1)
 
 returns : tie.Need-returns Inv-loop μ-loop
 returns c =
-    let s = c .before .before .before .before .before .before .before .before .before .before .before .before .before .before .before .before .before .before .before .before .before .before .before .before .before .before in
-    let on = onward-on (graph s) (s .args .label) (s .args .objects .now) (c .before .before .before .before .before .before .before .before .before .before .before .before .before .loop .inv) (c .before .before .before .before .before .before .before .before .before .run .ensures) in
-    onward-refused (graph s) (s .args .label) (s .args .objects .now) on (sym (c .before .before .field .ensures) ∙ ap fieldSays (c .enum-told2 .given .1)) refl (c .before .before .before .before .if1 .taken)
+    let s = c .before .before .before .before .before .before .before .before .before .before .before .before .before .before .before .before .before .before .before .before .before .before .before .before .before .before .before .before .before .before .before .before .before in
+    let r = c .before .before .before .before .before .before .row .ensures in
+    let on = onward-on (graph s) (s .args .label) (s .args .objects .now) (c .before .before .before .before .before .before .before .before .before .before .before .before .before .before .before .before .before .before .before .before .loop .inv) (c .before .before .before .before .before .before .before .before .before .before .before .before .before .before .before .before .run .ensures) in
+    let stays = onward-kept (graph s) (s .args .label) (s .args .objects .now) on r (c .before .if2 .left) in
+    onward-refused (graph s) (s .args .label) (s .args .objects .now) stays (sym (c .before .before .before .before .before .before .before .before .before .field .ensures)) (sym (r .answer) ∙ c .before .if2 .left) (c .refusal .ensures) (c .before .before .before .before .before .before .before .before .before .before .before .if1 .taken)
+
+loop-less-2 : tie.Need-loop-less-2 Inv-loop μ-loop
+loop-less-2 c = omega (arith, c .if1 .left, c .before .before .before .before .before .before .before .before .loop-test .taken)
+
+loop-again-2 : tie.Need-loop-again-2 Inv-loop μ-loop
+loop-again-2 c = onward-on _ _ _ (c .before .before .before .before .before .before .before .before .before .loop .inv) (c .before .before .before .before .before .run .ensures)
 
 returns-2 : tie.Need-returns-2 Inv-loop μ-loop
 returns-2 c =
-    let s = c .before .before .before .before .before .before .before .before .before .before .before .before .before .before .before .before .before .before .before .before .before .before .before .before .before .before in
-    let on = onward-on (graph s) (s .args .label) (s .args .objects .now) (c .before .before .before .before .before .before .before .before .before .before .before .before .before .loop .inv) (c .before .before .before .before .before .before .before .before .before .run .ensures) in
-    onward-refused (graph s) (s .args .label) (s .args .objects .now) on (sym (c .before .before .field .ensures) ∙ ap fieldSays (c .enum-told3 .given .1)) refl (c .before .before .before .before .if1 .taken)
-
-loop-less-3 : tie.Need-loop-less-3 Inv-loop μ-loop
-loop-less-3 c = omega (arith, c .if1 .left, c .before .before .before .before .before .before .before .before .loop-test .taken)
-
-loop-again-3 : tie.Need-loop-again-3 Inv-loop μ-loop
-loop-again-3 c = onward-on _ _ _ (c .before .before .before .before .before .before .before .before .before .loop .inv) (c .before .before .before .before .before .run .ensures)
-
-returns-3 : tie.Need-returns-3 Inv-loop μ-loop
-returns-3 c =
     let s = c .before .before .before .before .before .before .before .before .before .before .before .before .before .before in
     onward-end (graph s) (s .args .label) (s .args .objects .now) (c .before .loop .inv) (c .loop-test .left) (s .pre .0 .0) (s .pre .0 .1)
 
@@ -148,30 +95,16 @@ ask-spec =
     (λ c. search needs)
     cast-object
     (λ c κs. search needs)
-    (λ c. search needs)
-    mul-own-targets
-    slice-write-own-targets
-    slice-write-found
+    row-requires
     add-i
     loop-less
     loop-again
+    (λ c κs. search needs)
     (λ c. search needs)
-    mul-own-targets-2
-    slice-write-own-targets-2
-    slice-write-found-2
-    add-i-2
+    (λ c. search needs)
+    returns
     loop-less-2
     loop-again-2
     (λ c. search needs)
     (λ c. search needs)
-    (λ c. search needs)
-    returns
-    (λ c. search needs)
-    (λ c. search needs)
-    (λ c. search needs)
-    returns-2
-    loop-less-3
-    loop-again-3
-    (λ c. search needs)
-    (λ c. search needs)
-    returns-3)
+    returns-2)

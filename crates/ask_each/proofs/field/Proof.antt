@@ -1,14 +1,14 @@
 -- `ask_each::field` meets its contract: ROOM, or the list asked over its spans, settled. Assumes nothing.
+use mathlib.Core.Path.{sym, _∙_}
 use mathlib.Core.List.{List}
 use Prim.Native.Nat.{ℕ}
 use native.Mathlib.Omega.{arith}
-use borrow.Author.Tests.{lt-ltb}
+use lib.ListN.{length}
 use denote.Ref.{now}
-use Rattle.columns.proofs.Tests.{some-of}
 use Rattle.ask_span.specs.Graph.{edgeColumns}
 use Rattle.ask_each.specs.Listed.{asks}
-use Rattle.ask_each.proofs.Offsets.{told-wider}
-use Rattle.ask_each.proofs.Answers.{each-room, each-asked}
+use Rattle.ask_each_spans.proofs.Offsets.{told-wider}
+use Rattle.ask_each.proofs.Answers.{room-for, each-room, each-asked}
 use borrow.Author.Needs.{needs}
 use Rattle.ask_each.proofs.field.Statement.{statement}
 use Rattle.ask_each.proofs.field.Tie as tie
@@ -21,46 +21,44 @@ single s =
 
 returns : tie.Need-returns
 returns c =
-    let s = c .before .before .before .before .before .before .before .before .before .before .before .before .before .before .before .before .before .before .before .before in
-    each-room (single s) (s .args .objects .now) (s .args .own-targets .now) (s .args .found .now) (some-of _ 0 (lt-ltb _ _ (c .before .before .before .before .before .before .before .if1 .taken))) (c .before .before .before .before .settle .ensures)
-
-returns-2 : tie.Need-returns-2
-returns-2 c =
     let s = c .before .before .before .before .before .before .before .before .before .before .before .before .before .before .before .before .before .before .before .before .before in
-    each-room (single s) (s .args .objects .now) (s .args .own-targets .now) (s .args .found .now) (some-of _ 1 (lt-ltb _ _ (c .before .before .before .before .before .before .before .if2 .taken))) (c .before .before .before .before .settle2 .ensures)
+    each-room (single s) (s .args .objects .now) (s .args .own-targets .now) (s .args .found .now) (sym (c .before .before .before .before .before .before .before .before .lacks-room .ensures) ∙ c .before .before .before .before .before .before .before .if1 .taken) (c .before .before .before .before .settle .ensures)
+
+spans-requires : tie.Need-spans-requires
+spans-requires c κs =
+    let room = room-for _ _ _ (sym (c .before .before .before .before .lacks-room .ensures) ∙ c .before .before .before .if1 .left) in
+    (room .0, room .1, c .before .before .limit .ensures .2)
 
 ask-requires : tie.Need-ask-requires
 ask-requires c κs =
     let p = c .before .before .before .before .before .before .before .spans .ensures in
     let e = c .before .before .before .before .before .before .before .before .before .before .limit .ensures in
-    ((omega (arith, p .same-targets, c .before .before .before .before .before .before .before .before .before .before .before .before .if1 .left), omega (arith, p .same-found, c .before .before .before .before .before .before .before .before .before .before .before .if2 .left)), (c .before .before .sole .ensures, told-wider (e .0) (e .1) (p .spans)))
+    let a = c .before .before .before .before .before .before .before .before .before .before .before .before .before .before .before .before .before .before .before .before .before .before .before .before .before .args in
+    let room = room-for (length (a .objects .now)) (length (a .own-targets .now)) (length (a .found .now)) (sym (c .before .before .before .before .before .before .before .before .before .before .before .before .lacks-room .ensures) ∙ c .before .before .before .before .before .before .before .before .before .before .before .if1 .left) in
+    ((omega (arith, p .same-targets, room .0), omega (arith, p .same-found, room .1)), (c .before .before .sole .ensures, told-wider (e .0) (e .1) (p .spans)))
 
-returns-3 : tie.Need-returns-3
-returns-3 c =
-    let s = c .before .before .before .before .before .before .before .before .before .before .before .before .before .before .before .before .before .before .before .before .before .before .before .before .before .before .before .before .before .before .before .before .before .before .before .before .before in
+returns-2 : tie.Need-returns-2
+returns-2 c =
     let p = c .before .before .before .before .before .before .before .before .before .before .before .before .before .before .before .before .before .before .before .spans .ensures in
-    each-asked (single s) (s .args .objects .now) (s .args .own-targets .now) (s .args .found .now)
-    (c .before .before .before .before .before .before .before .before .before .before .before .before .before .before .before .before .before .before .before .before .before .before .before .before .if1 .left)
-    (c .before .before .before .before .before .before .before .before .before .before .before .before .before .before .before .before .before .before .before .before .before .before .before .if2 .left) (p .same-targets) (p .same-found)
-    (c .before .before .before .before .before .before .before .before .before .before .before .ask .ensures) (c .before .before .before .before .settle3 .ensures)
+    let w = c .before .before .before .before .before .before .before .before .before .before .before .before .before .before .before .before .before .before .before .before .before .before .before in
+    let s = w .before .before .before .before .before .before .before .before .before .before .before .before .before .before in
+    each-asked (single s) (s .args .objects .now) (s .args .own-targets .now) (s .args .found .now) (sym (w .before .lacks-room .ensures) ∙ w .if1 .left) (p .same-targets) (p .same-found)
+    (c .before .before .before .before .before .before .before .before .before .before .before .ask .ensures) (c .before .before .before .before .settle2 .ensures)
 
 pub field-spec : {M : Type 1} → statement M
 field-spec =
     tie.close
     (tie.spec
     (λ c κs. search needs)
+    (λ c κs. search needs)
     (λ c. search needs)
     (λ c. search needs)
     returns
     (λ c κs. search needs)
-    (λ c. search needs)
-    (λ c. search needs)
-    returns-2
-    (λ c κs. search needs)
-    (λ c κs. search needs)
+    spans-requires
     (λ c κs. search needs)
     ask-requires
     (λ c κs. search needs)
     (λ c. search needs)
     (λ c. search needs)
-    returns-3)
+    returns-2)

@@ -1,17 +1,15 @@
 -- `ask_each::run` meets its contract: the answers below i stand in the columns, and behind them the spans of the others. Assumes nothing.
 use Prim.Native.Nat.{ℕ, _-_}
-use mathlib.Core.Path.{refl, sym, ap}
+use mathlib.Core.Path.{refl, sym, _∙_}
 use mathlib.Core.List.{List}
 use native.Mathlib.Omega.{arith}
 use lib.ListN.{length}
 use denote.Ref.{now}
-use Rattle.columns.specs.Columns.{accepts}
-use Rattle.rules.specs.Types.{fieldSays}
 use Rattle.rules.specs.Questions.{Columns}
 use Rattle.ask_span.specs.Graph.{edgeColumns}
 use Rattle.ask_each.specs.Listed.{Onward}
 use Rattle.ask_each.proofs.Single.{quick-whole}
-use Rattle.ask_each.proofs.Answers.{onward-start, onward-found, onward-nothing}
+use Rattle.ask_each.proofs.Answers.{onward-start, onward-row, onward-kept}
 use borrow.Author.Needs.{needs}
 use Rattle.ask_each.proofs.run.Statement.{statement}
 use Rattle.ask_each.proofs.run.Tie as tie
@@ -47,42 +45,28 @@ by-codes-requires c κs =
     let w = c .before .before .before in
     (w .before .before .before .before .before .before .before .before .before .before .before .before .before .before .pre .1 .0, w .before .loop .inv .asking .spans .told (w .before .loop .i) (omega arith) (w .loop-test .taken))
 
-mul-own-targets : tie.Need-mul-own-targets Inv-loop μ-loop
-mul-own-targets c = let w = c .before .before .before .before .before .before .before in omega (arith, w .loop-test .taken, w .before .before .before .before .before .before .before .before .before .before .before .before .before .before .good)
+row-requires : tie.Need-row-requires Inv-loop μ-loop
+row-requires c κs =
+    let w = c .before .before .before .before .before .before in
+    let p = w .before .before .before .before .before .before .before .before .before .before .before .before .before .before .pre .0 in
+    (omega (arith, w .loop-test .taken, w .before .loop .inv .same-targets, p .0), omega (arith, w .loop-test .taken, w .before .loop .inv .same-found, p .1))
 
 add-i : tie.Need-add-i Inv-loop μ-loop
-add-i c = let w = c .before .before .before .before .before .before .before in omega (arith, w .loop-test .taken, w .before .before .before .before .before .before .before .before .before .before .before .before .before .before .good)
+add-i c = let w = c .before .before .before .before .before .before .before .before .before .before .before .before in omega (arith, w .loop-test .taken, w .before .before .before .before .before .before .before .before .before .before .before .before .before .before .good)
 
 loop-again : tie.Need-loop-again Inv-loop μ-loop
-unfolding accepts
 loop-again c =
-    let w = c .before .before .before .before .before .before .before in
+    let w = c .before .before .before .before .before .before .before .before .before .before .before .before in
     let s = w .before .before .before .before .before .before .before .before .before .before .before .before .before .before in
-    let is = quick-whole (graph s) _ (s .args .label) (ap fieldSays (c .before .t .given .1)) (c .before .before .before .by-codes .ensures) refl in
-    onward-found (graph s) (s .args .label) (s .args .objects .now) (w .before .loop .inv) (sym is) (w .loop-test .taken) (s .pre .0 .0) (s .pre .0 .1)
-
-mul-own-targets-2 : tie.Need-mul-own-targets-2 Inv-loop μ-loop
-mul-own-targets-2 c = let w = c .before .before .before .before .before .before in omega (arith, w .loop-test .taken, w .before .before .before .before .before .before .before .before .before .before .before .before .before .before .good)
-
-add-i-2 : tie.Need-add-i-2 Inv-loop μ-loop
-add-i-2 c = let w = c .before .before .before .before .before .before in omega (arith, w .loop-test .taken, w .before .before .before .before .before .before .before .before .before .before .before .before .before .before .good)
-
-loop-again-2 : tie.Need-loop-again-2 Inv-loop μ-loop
-unfolding accepts
-loop-again-2 c =
-    let w = c .before .before .before .before .before .before in
-    let s = w .before .before .before .before .before .before .before .before .before .before .before .before .before .before in
-    let is = quick-whole (graph s) _ (s .args .label) (ap fieldSays (c .enum-told .given .1)) (c .before .before .by-codes .ensures) refl in
-    onward-nothing (graph s) (s .args .label) (s .args .objects .now) (w .before .loop .inv) (sym is) (w .loop-test .taken) (s .pre .0 .0) (s .pre .0 .1)
+    let r = c .before .before .before .before .before .row .ensures in
+    let is = quick-whole (graph s) _ (s .args .label) refl (c .before .before .before .before .before .before .before .before .by-codes .ensures) (sym (r .answer) ∙ c .if1 .taken) in
+    onward-row (graph s) (s .args .label) (s .args .objects .now) (w .before .loop .inv) r (c .if1 .taken) (sym is) (w .loop-test .taken) (s .pre .0 .0) (s .pre .0 .1)
 
 returns : tie.Need-returns Inv-loop μ-loop
-returns c = c .before .before .before .before .before .before .before .loop .inv
+returns c = onward-kept _ _ _ (c .before .before .before .before .before .before .before .before .before .before .before .before .before .loop .inv) (c .before .before .before .before .before .row .ensures) (c .if1 .left)
 
 returns-2 : tie.Need-returns-2 Inv-loop μ-loop
-returns-2 c = c .before .before .before .before .before .before .before .loop .inv
-
-returns-3 : tie.Need-returns-3 Inv-loop μ-loop
-returns-3 c = c .before .loop .inv
+returns-2 c = c .before .loop .inv
 
 pub run-spec : {M : Type 1} → statement M
 run-spec =
@@ -100,28 +84,13 @@ run-spec =
     (λ c. search needs)
     cast-object
     by-codes-requires
-    (λ c. search needs)
-    mul-own-targets
-    (λ c. search needs)
-    (λ c. search needs)
+    row-requires
     add-i
     (λ c. search needs)
     loop-again
-    (λ c. search needs)
-    mul-own-targets-2
-    (λ c. search needs)
-    (λ c. search needs)
-    add-i-2
-    (λ c. search needs)
-    loop-again-2
-    (λ c. search needs)
     (λ c. search needs)
     (λ c. search needs)
     returns
     (λ c. search needs)
     (λ c. search needs)
-    (λ c. search needs)
-    returns-2
-    (λ c. search needs)
-    (λ c. search needs)
-    returns-3)
+    returns-2)
