@@ -1,12 +1,11 @@
--- What has a place, by the tests that counting makes: slots and codes, statics and loaders, and the sums of an object and of a class. Assumes nothing.
+-- What has a place, by the tests that counting makes: statics and loaders, and the sums of an object and of a class. Assumes nothing.
 use mathlib.Core.Path.{_≡_, sym, ap, _∙_}
-use mathlib.Core.Bool.{Bool, true, false, not}
-use mathlib.Core.List.{List, [], _∷_}
+use mathlib.Core.Bool.{Bool, true, false}
+use mathlib.Core.List.{List}
 use mathlib.Core.Option.{none, some}
 use Prim.Native.Nat.{ℕ, _+_, _-_, _≤_, _<_}
 use native.Mathlib.Omega.{arith}
 use borrow.Author.Tests.{lt-ltb, le-ltb, eq-eqb, ne-eqb}
-use lib.Dec.{eqb}
 use lib.ListN.{length}
 use Rattle.columns.specs.Lists.{_!_, one, total, find, allOf, anyOf}
 use Rattle.columns.proofs.Counts.{ones-few}
@@ -14,30 +13,9 @@ use Rattle.rules.specs.declared.ReferencePolicy.{ReferencePolicy}
 use Rattle.rules.specs.Types.{keeps}
 use Rattle.check_tables.specs.Found.{placeFor}
 use Rattle.check_ids.specs.Spans.{partLength}
-use Rattle.check_tables.proofs.Even.{two-first, two-second, two-none}
+use Rattle.check_place.proofs.Slots.{rest-of}
 use Rattle.check_ids.proofs.Parted.{part-array, slots-some}
-use Rattle.check_places.specs.Placing.{slotHeld, oneSlot, oneCode, objectPlaces, isHeld, staticHeld, oneStatic, classPlaces, PartStands}
-
--- the second of two tests, where the first holds
-pub rest-of : (a b : Bool) → a ≡ true → allOf (a ∷ b ∷ []) ≡ b
-unfolding allOf
-rest-of a true h = rw h
-rest-of a false h = rw h
-
-module _ (kept : Bool) (weak code : ℕ) where
-  counted : anyOf (not (eqb weak 1) ∷ kept ∷ []) ≡ true → {r : ℕ} → r ≡ one (not (eqb code 0)) → r ≡ one (slotHeld kept weak code)
-  unfolding slotHeld
-  counted h e = e ∙ ap one (sym (rest-of _ (not (eqb code 0)) h))
-
-  pub slot-kept : kept ≡ true → {r : ℕ} → r ≡ one (not (eqb code 0)) → r ≡ one (slotHeld kept weak code)
-  slot-kept h e = counted (sym (two-second (not (eqb weak 1)) kept h)) e
-
-  pub slot-strong : (weak ≡ 1 → ⊥) → {r : ℕ} → r ≡ one (not (eqb code 0)) → r ≡ one (slotHeld kept weak code)
-  slot-strong h e = counted (sym (two-first (not (eqb weak 1)) kept (ap not (ne-eqb weak 1 h)))) e
-
-  pub slot-dropped : kept ≡ false → weak ≡ 1 → 0 ≡ one (slotHeld kept weak code)
-  unfolding slotHeld allOf
-  slot-dropped k w = rw (← two-none (not (eqb weak 1)) kept (ap not (eq-eqb weak 1 w)) k)
+use Rattle.check_places.specs.Placing.{oneSlot, oneCode, objectPlaces, isHeld, staticHeld, oneStatic, classPlaces, PartStands}
 
 -- one object, by its kind
 module _ (classKinds slotStart slotEnd weak codes : List ℕ) (policy : ReferencePolicy) (kind class len start : ℕ) where

@@ -12,21 +12,13 @@ use Rattle.rules.specs.declared.ReferencePolicy.{ReferencePolicy}
 use Rattle.rules.specs.Types.{keeps}
 use Rattle.check_ids.specs.Spans.{partLength}
 use Rattle.check_tables.specs.Found.{placeFor}
+-- "Raw counts every slot, every element", "copied counts kept non-zero slots, non-zero elements": of one object, slot or element; what counting parts asks
+pub use Rattle.check_place.specs.Place.{partAt, oneCode, codesIn, PartTables, PartsIn}
+unfoldable pub use Rattle.check_place.specs.Place.{slotHeld}
 
--- "Raw counts every slot, every element": an object's part, the rules `slotCount` and `elementCount`, by the law `raw-own`
-abbrev pub partAt : List ℕ → List ℕ → List ℕ → List ℕ → List ℕ → ℕ → ℕ
-partAt kinds classes lengths slotStart slotEnd o = partLength (kinds ! o) (classes ! o) (lengths ! o) slotStart slotEnd
-
--- "Copied counts kept non-zero slots, non-zero elements": the rule `takes` of one slot (law `slot-one`) and of one element (law `element-one`);
--- a code is 0 where the id is (law `code-zero`).
-unfoldable pub slotHeld : Bool → ℕ → ℕ → Bool
-slotHeld kept weak code = allOf (anyOf (not (eqb weak 1) ∷ kept ∷ []) ∷ not (eqb code 0) ∷ [])
-
+-- the slots of an instance
 abbrev pub oneSlot : List ℕ → List ℕ → Bool → ℕ → ℕ → ℕ → ℕ
 oneSlot codes weak kept start first k = one (slotHeld kept (weak ! (first + k)) (codes ! (start + k)))
-
-abbrev pub oneCode : List ℕ → ℕ → ℕ → ℕ
-oneCode codes start k = one (not (eqb (codes ! (start + k)) 0))
 
 -- The places of an object's own slots and elements in the rule `placesOf`: law `copied-own`.
 unfoldable pub objectPlaces : List ℕ → List ℕ → List ℕ → List ℕ → List ℕ → ReferencePolicy → ℕ → ℕ → ℕ → ℕ → ℕ
@@ -67,11 +59,8 @@ copiedPlaces ids kinds classes lengths classIds loaders dumped classKinds slotSt
     total (heldAt kinds classes lengths classKinds slotStart slotEnd weak codes starts policy) (length kinds)
     + total (classPlaces false ids classIds loaders dumped staticStart staticEnd types values) (length classIds)
 
--- No more than these, which no rule names: the codes that are not 0 of an object's part, and of each class that is found every object static and its
+-- No more than these, which no rule names: the codes that are not 0 of an object's part (`codesIn`), and of each class that is found every object static and its
 -- loader. The law `places-most` says that they bound `copiedPlaces`.
-abbrev pub codesIn : List ℕ → List ℕ → List ℕ → List ℕ → List ℕ → List ℕ → List ℕ → ℕ → ℕ
-codesIn kinds classes lengths slotStart slotEnd codes starts o = total (oneCode codes (starts ! o)) (partAt kinds classes lengths slotStart slotEnd o)
-
 unfoldable pub mostPlaces : List ℕ → List ℕ → List ℕ → List ℕ → List ℕ → List ℕ → List ℕ → List ℕ → List ℕ → List ℕ → List ℕ → List ℕ
     → List ℕ → List ℕ → List ℕ → ℕ
 mostPlaces ids kinds classes lengths classIds loaders dumped slotStart slotEnd staticStart staticEnd types values codes starts =
@@ -93,14 +82,7 @@ pub record ClassTables (ids classIds loaders dumped staticStart staticEnd types 
   pub ranges : RangesIn staticStart staticEnd (length types)
   pub few : length classIds ≤ 67108864
 
--- of the objects on the raw route,
-pub record PartTables (kinds classes lengths slotStart slotEnd : List ℕ) : Type 0 where
-  pub classes-long : length classes ≡ length kinds
-  pub lengths-long : length lengths ≡ length kinds
-  pub ends-long : length slotEnd ≡ length slotStart
-  pub few : length kinds ≤ 67108864
-
--- of one object on the copied route, and of all.
+-- of one object on the copied route, and of all. Of the objects on the raw route: `PartTables`.
 pub record PartStands (classKinds slotStart slotEnd weak codes : List ℕ) (kind class len start : ℕ) : Type 0 where
   pub kinds-long : length classKinds ≡ length slotStart
   pub ends-long : length slotEnd ≡ length slotStart
@@ -114,11 +96,3 @@ pub record CodeTables (kinds classes lengths classKinds slotStart slotEnd weak c
   pub starts-long : length starts ≡ length kinds
   pub stands : (o : ℕ) → o < length kinds → PartStands classKinds slotStart slotEnd weak codes (kinds ! o) (classes ! o) (lengths ! o) (starts ! o)
   pub few : length kinds ≤ 67108864
-
--- Of the parts alone: each stands within n codes.
-pub record PartsIn (kinds classes lengths slotStart slotEnd starts : List ℕ) (n : ℕ) : Type 0 where
-  pub classes-long : length classes ≡ length kinds
-  pub lengths-long : length lengths ≡ length kinds
-  pub starts-long : length starts ≡ length kinds
-  pub ends-long : 0 < length kinds → length slotEnd ≡ length slotStart
-  pub span : (o : ℕ) → o < length kinds → kinds ! o < 2 → starts ! o + partAt kinds classes lengths slotStart slotEnd o ≤ n

@@ -1,35 +1,11 @@
 // The places of a copied input's own ids: kept slots and elements whose code is not 0, which on codes that were checked is an id that is not 0.
 ghost use mathlib.Core.Path.{_≡_};
-ghost use mathlib.Core.Bool.{not};
 ghost use Prim.Native.Nat.{_+_, _≤_, _<_};
-ghost use lib.Dec.{eqb};
 ghost use lib.ListN.{length};
-ghost use Rattle.columns.specs.Lists.{one, total};
+ghost use Rattle.columns.specs.Lists.{total};
 ghost use Rattle.columns.specs.Loans.{entry};
-ghost use Rattle.check_places.specs.Placing.{slotHeld, oneSlot, oneCode, objectPlaces, heldAt, PartStands, CodeTables};
+ghost use Rattle.check_places.specs.Placing.{oneSlot, oneCode, objectPlaces, heldAt, PartStands, CodeTables};
 use rules::ReferencePolicy;
-
-// 1 for a code that is not 0, and for one of a slot that is kept: calls in the place of branches, so that the walks have one way on.
-fn one_code(code: u32) -> u64
-    ensures { λ r. ⌜ r ≡ one (not (eqb code 0)) ⌝ }
-{
-    if code == 0 {
-        return 0;
-    }
-    1
-}
-
-fn one_slot(kept: bool, weak: u8, code: u32) -> u64
-    ensures { λ r. ⌜ r ≡ one (slotHeld kept weak code) ⌝ }
-{
-    if kept {
-        return one_code(code);
-    }
-    if weak == 1 {
-        return 0;
-    }
-    one_code(code)
-}
 
 // The slots of an instance, whose class's slots begin at `first` and whose codes begin at `start`.
 fn count_slots(
@@ -48,7 +24,7 @@ fn count_slots(
     let mut sum: u64 = 0;
     let mut k = 0;
     while k < n {
-        sum += one_slot(kept, slot_weak[first + k], codes[start + k]);
+        sum += check_place::one_slot(kept, slot_weak[first + k], codes[start + k]);
         k += 1;
     }
     sum
@@ -63,7 +39,7 @@ fn count_codes(codes: &[u32], start: usize, n: usize) -> u64
     let mut sum: u64 = 0;
     let mut k = 0;
     while k < n {
-        sum += one_code(codes[start + k]);
+        sum += check_place::one_code(codes[start + k]);
         k += 1;
     }
     sum

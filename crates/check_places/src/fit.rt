@@ -3,44 +3,10 @@ ghost use mathlib.Core.Path.{_≡_};
 ghost use mathlib.Core.Bool.{true};
 ghost use Prim.Native.Nat.{_≤_};
 ghost use lib.ListN.{length};
-ghost use Rattle.columns.specs.Lists.{total};
 ghost use Rattle.columns.specs.Loans.{entry};
 ghost use Rattle.check_ids.specs.Copying.{heldCodes};
-ghost use Rattle.check_places.specs.Placing.{codesIn, mostPlaces, PartsIn, ClassTables};
+ghost use Rattle.check_places.specs.Placing.{mostPlaces, PartsIn, ClassTables};
 use crate::statics;
-use check_ids::spans;
-
-// The objects' parts stand in the codes one behind the other: no code is in two of them, so that all parts hold no more than the codes do.
-fn in_order(
-    kinds: &[u8],
-    classes: &[u32],
-    lengths: &[u32],
-    slot_starts: &[u32],
-    slot_ends: &[u32],
-    codes: &[u32],
-    starts: &[u32],
-) -> bool
-    requires { ⌜ PartsIn (now kinds) (now classes) (now lengths) (now «slot_starts») (now «slot_ends») (now starts) (length (now codes)) ⌝ }
-    ensures { λ r. ⌜ (r ≡ true → total (codesIn (entry kinds) (entry classes) (entry lengths) (entry «slot_starts») (entry «slot_ends»)
-        (entry codes) (entry starts)) (length (entry kinds)) ≤ heldCodes (entry codes)) ⌝ }
-{
-    let mut end = 0;
-    let mut o = 0;
-    while o < kinds.len() {
-        let part = spans::part_of(kinds[o], classes[o], lengths[o], slot_starts, slot_ends);
-        if part == 0 {
-            o += 1;
-        } else {
-            let start = columns::index(starts[o]);
-            if start < end {
-                return false;
-            }
-            end = start + columns::index(part);
-            o += 1;
-        }
-    }
-    true
-}
 
 // All of the codes that are not 0 and every object static and loader of the classes that are found are within the room.
 pub(crate) fn within(
@@ -86,7 +52,7 @@ pub(crate) fn within(
     if ((room - held) as u64) < most {
         return false;
     }
-    in_order(
+    check_place::in_order(
         kinds,
         classes,
         lengths,

@@ -1,40 +1,14 @@
 // The number of places of an input, by both routes.
 ghost use mathlib.Core.Path.{_≡_};
-ghost use Prim.Native.Nat.{_≤_};
-ghost use lib.ListN.{length};
-ghost use Rattle.columns.specs.Lists.{total};
 ghost use Rattle.columns.specs.Loans.{entry};
 ghost use Rattle.rules.specs.Needs.{Fits};
 ghost use Rattle.check_ids.specs.Copying.{heldCodes};
-ghost use Rattle.check_places.specs.Placing.{partAt, PartTables, ClassTables, CodeTables, rawPlaces, copiedPlaces};
-use check_ids::spans;
+ghost use Rattle.check_places.specs.Placing.{PartTables, ClassTables, CodeTables, rawPlaces, copiedPlaces};
 use rules::ReferencePolicy;
 
 pub mod codes;
 pub mod fit;
 pub mod statics;
-
-// All slots and elements. Each part has fewer than 2^32, so that the sum stays below 2^64.
-fn count_parts(
-    kinds: &[u8],
-    classes: &[u32],
-    lengths: &[u32],
-    slot_starts: &[u32],
-    slot_ends: &[u32],
-) -> u64
-    requires { ⌜ PartTables (now kinds) (now classes) (now lengths) (now «slot_starts») (now «slot_ends») ⌝ }
-    ensures { λ r. ⌜ r ≡ total (partAt (entry kinds) (entry classes) (entry lengths) (entry «slot_starts») (entry «slot_ends»)) (length (entry kinds)) ⌝ }
-    ensures { λ r. ⌜ r ≤ 288230376151711744 ⌝ }
-{
-    let mut sum: u64 = 0;
-    let mut o = 0;
-    while o < kinds.len() {
-        let part = spans::part_of(kinds[o], classes[o], lengths[o], slot_starts, slot_ends);
-        sum += columns::wide(part);
-        o += 1;
-    }
-    sum
-}
 
 // The places of a raw input.
 pub fn raw_places(
@@ -58,7 +32,7 @@ pub fn raw_places(
         (entry «class_ids») (entry loaders) (entry dumped) (entry «slot_starts») (entry «slot_ends») (entry «static_starts») (entry «static_ends»)
         (entry «static_types») (entry «static_values») ⌝ }
 {
-    let parts = count_parts(kinds, classes, lengths, slot_starts, slot_ends);
+    let parts = check_place::count_parts(kinds, classes, lengths, slot_starts, slot_ends);
     let held = statics::count_classes(
         ids,
         class_ids,
