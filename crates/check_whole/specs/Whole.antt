@@ -1,11 +1,11 @@
--- What the tests of whole tables read, and PLACES by a number. Assumes nothing.
+-- What the tests of whole tables read, and PLACES by a number, which is passed on. Assumes nothing.
 use Prim.Native.Nat.{ℕ}
-use mathlib.Core.Bool.{cond}
-use mathlib.Core.List.{List, [], _∷_}
+use mathlib.Core.List.{List, []}
 use Rattle.rules.specs.Input.{Route, Input}
 use Rattle.rules.specs.Tables.{objectTable, classTable, slotTable, staticTable, rawRoute, schemaOf, inputOf}
-use Rattle.rules.specs.Verdict.{overPlaces}
 use Rattle.check_tables.specs.Reads.{own, noPolicy, noRoute}
+-- 8 PLACES: "total places over the limit"; and no more than the limit
+unfoldable pub use Rattle.check_limit.specs.Limit.{limitSays, allowed}
 
 -- the lengths that the raw route's columns have, without the bytes
 abbrev pub bodiesOnly : List ℕ → List ℕ → Route
@@ -19,11 +19,3 @@ dumpedColumns ids kinds classIds dumped classKinds slotStart slotEnd staticStart
     schemaOf (classTable own classIds [] dumped classKinds slotStart slotEnd staticStart staticEnd) (slotTable own offsets labels weak)
     (staticTable own staticNames types []) names in
     inputOf (objectTable own ids kinds [] []) schema noRoute [] noPolicy
-
--- 8 PLACES: "total places over the limit"; else the number that is told for them.
-unfoldable pub limitSays : ℕ → ℕ → List ℕ
-limitSays n told = cond (overPlaces n) (8 ∷ 0 ∷ []) (0 ∷ told ∷ [])
-
--- no more than the limit, so that what fits is not over it
-unfoldable pub allowed : ℕ → ℕ
-allowed room = cond (overPlaces room) 268435456 room

@@ -1,12 +1,12 @@
--- `check_whole::accepted` meets its contract: a refusal's number is never 0. Assumes nothing.
+-- `check_limit::accepted` meets its contract: a refusal's number is never 0. Assumes nothing.
 use mathlib.Core.Path.{sym, ap, _∙_}
 use Rattle.columns.specs.Columns.{accepts}
 use Rattle.rules.specs.declared.Checked.{Checked}
 use Rattle.rules.specs.Types.{checkedSays}
 use Rattle.rules.proofs.Types.{refusal-refuses}
 use borrow.Author.Needs.{needs}
-use Rattle.check_whole.proofs.accepted.Statement.{statement}
-use Rattle.check_whole.proofs.accepted.Tie as tie
+use Rattle.check_limit.proofs.accepted.Statement.{statement}
+use Rattle.check_limit.proofs.accepted.Tie as tie
 
 returns : tie.Need-returns
 unfolding accepts

@@ -1,8 +1,8 @@
--- `check_whole::least_room` meets its contract: by the limit. Assumes nothing.
+-- `check_limit::least_room` meets its contract: by the limit. Assumes nothing.
 use borrow.Author.Tests.{lt-ltb, le-ltb}
-use Rattle.check_whole.specs.Whole.{allowed}
-use Rattle.check_whole.proofs.least_room.Statement.{statement}
-use Rattle.check_whole.proofs.least_room.Tie as tie
+use Rattle.check_limit.specs.Limit.{allowed}
+use Rattle.check_limit.proofs.least_room.Statement.{statement}
+use Rattle.check_limit.proofs.least_room.Tie as tie
 
 returns : tie.Need-returns
 unfolding allowed

@@ -1,9 +1,9 @@
--- `check_whole::settle` meets its contract: by the test. Assumes nothing.
+-- `check_limit::settle` meets its contract: by the test. Assumes nothing.
 use mathlib.Core.Path.{_∙_}
 use Rattle.columns.proofs.Written.{zeroed}
 use borrow.Author.Needs.{needs}
-use Rattle.check_whole.proofs.settle.Statement.{statement}
-use Rattle.check_whole.proofs.settle.Tie as tie
+use Rattle.check_limit.proofs.settle.Statement.{statement}
+use Rattle.check_limit.proofs.settle.Tie as tie
 
 returns : tie.Need-returns
 returns c = rw (c .if1 .taken)

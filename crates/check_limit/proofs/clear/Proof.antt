@@ -1,7 +1,7 @@
--- `check_whole::clear` meets its contract: nothing is kept. Assumes nothing.
+-- `check_limit::clear` meets its contract: nothing is kept. Assumes nothing.
 use borrow.Author.Needs.{needs}
-use Rattle.check_whole.proofs.clear.Statement.{statement}
-use Rattle.check_whole.proofs.clear.Tie as tie
+use Rattle.check_limit.proofs.clear.Statement.{statement}
+use Rattle.check_limit.proofs.clear.Tie as tie
 
 returns : tie.Need-returns
 returns c = c .before .before .settle .ensures

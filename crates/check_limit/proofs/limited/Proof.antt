@@ -1,9 +1,9 @@
--- `check_whole::limited` meets its contract: by the limit. Assumes nothing.
+-- `check_limit::limited` meets its contract: by the limit. Assumes nothing.
 use borrow.Author.Tests.{lt-ltb, le-ltb}
-use Rattle.check_whole.specs.Whole.{limitSays}
+use Rattle.check_limit.specs.Limit.{limitSays}
 use borrow.Author.Needs.{needs}
-use Rattle.check_whole.proofs.limited.Statement.{statement}
-use Rattle.check_whole.proofs.limited.Tie as tie
+use Rattle.check_limit.proofs.limited.Statement.{statement}
+use Rattle.check_limit.proofs.limited.Tie as tie
 
 returns : tie.Need-returns
 unfolding limitSays
