@@ -3,30 +3,28 @@ use mathlib.Core.Path.{_≡_, refl, sym, ap, _∙_}
 use mathlib.Core.Logic.{_⊎_, inl, inr}
 use mathlib.Core.Bool.{Bool, true, false, cond, not, _||_, _&&_}
 use mathlib.Core.List.{List, [], _∷_, _++_, append-nil}
-use Prim.Native.Nat.{ℕ, zero, suc, _+_, _-_, _≤_, _<_, min, zero-le}
+use Prim.Native.Nat.{ℕ, zero, suc, _+_, _-_, _≤_, _<_, zero-le}
 use native.Mathlib.Numerals.{add-one}
 use native.Mathlib.Omega.{arith}
 use borrow.Author.Tests.{lt-ltb, le-ltb, ltb-false, le-leb, lt-leb, eq-eqb, ne-eqb, eqb-true, eqb-false, not-false}
 use lib.Dec.{eqb, leb, ltb}
-use lib.ListN.{length, take, getD}
-use lib.Seq.{getD-take, length-take-le}
+use lib.ListN.{length, take}
 use Rattle.columns.specs.Lists.{_!_, places, firstPlace, part, allOf, anyOf}
 use Rattle.columns.proofs.Lists.{lt-or-ge}
 use Rattle.columns.proofs.Tests.{or-true, none-of, append-empty, places-none, and-true, or-none}
 use Rattle.columns.proofs.Sums.{part-length}
-use Rattle.columns.proofs.Parts.{places-ext}
 use Rattle.columns.proofs.First.{Searching, searching-start, searching-more}
 use Rattle.labels.specs.Coding.{LaidOut}
 use Rattle.labels.proofs.Codes.{laid-within}
-use Rattle.rules.specs.Types.{LOADER, ARRAY-ELEMENT}
 use Rattle.rules.specs.Edges.{pairLe}
 use Rattle.rules.specs.Labels.{after, expected}
-use Rattle.rules.specs.Verdict.{once, badRoot}
-use Rattle.rules.specs.Parts.{degree, below, badOffsets, badLabel, badLabels, noObject, badTargets, badPair}
+use Rattle.rules.specs.Verdict.{once}
+use Rattle.rules.specs.Parts.{degree, below, badOffsets, badLabel, badLabels, badPair}
 use Rattle.rules.proofs.Acceptance.{once-empty}
 use Rattle.check_tables.proofs.Faults.{prior}
 use Rattle.check_parts.specs.Checks.{labelFault, pairFault}
-use Rattle.check_parts.proofs.Lists.{first-of, first-or-end, none-of-them, nothing-taken, first-collected, first-mapped}
+use Rattle.check_edge.proofs.Firsts.{first-of, none-of-them}
+use Rattle.check_parts.proofs.Lists.{nothing-taken, first-collected, first-mapped}
 
 -- COLUMN 1. The first offset is not below itself.
 pub falls-start : (xs : List ℕ) → 0 < length xs → Searching (below xs) (length xs) 1
@@ -90,29 +88,7 @@ module _ (xs : List ℕ) (edges : ℕ) where
       ended true e = refl
       ended false e = let z : _≡_ {A = ℕ} 0 1 = cc in absurd (omega arith)
 
--- COLUMN 2. One label, by the three kinds.
-module _ (names n l : ℕ) where
-  pub label-field : l < LOADER → labelFault names n l ≡ leb names l
-  unfolding labelFault anyOf allOf
-  label-field h = rw (lt-leb LOADER l h, lt-leb ARRAY-ELEMENT l (omega arith), lt-ltb l 4294967296 (omega arith)) (go (lt-or-ge l names))
-    where
-      go : (l < names) ⊎ (names ≤ l) → not ((ltb l names || false) && true) || false ≡ leb names l
-      go (inl k) = rw (lt-ltb l names k, lt-leb names l k)
-      go (inr k) = rw (le-ltb l names k, le-leb names l k)
-
-  pub label-loader : LOADER ≤ l → l < ARRAY-ELEMENT → labelFault names n l ≡ false
-  unfolding labelFault anyOf allOf
-  label-loader h k = rw (le-leb LOADER l h, lt-leb ARRAY-ELEMENT l k, or-true (ltb l names), lt-ltb l 4294967296 (omega arith))
-
-  pub label-element : ARRAY-ELEMENT ≤ l → l < 4294967296 → labelFault names n l ≡ ltb (l - ARRAY-ELEMENT) n
-  unfolding labelFault anyOf allOf
-  label-element k w = rw (le-leb LOADER l (omega arith), le-leb ARRAY-ELEMENT l k, or-true (ltb l names), lt-ltb l 4294967296 w) (go (ltb (l - ARRAY-ELEMENT) n))
-    where
-      go : (b : Bool) → (b && true) || false ≡ b
-      go true = refl
-      go false = refl
-
--- a label of an object's, behind k others
+-- COLUMN 2. A label of an object's, behind k others
 pub label-at : (names : ℕ) (ls : List ℕ) (k : ℕ) → badLabel names ls k ≡ labelFault names (expected ls k) (ls ! k)
 unfolding badLabel labelFault
 label-at names ls k = refl
@@ -158,33 +134,6 @@ module _ (names : ℕ) (offsets labels : List ℕ) where
 
   pub labelled-all : {o : ℕ} → LabelsTested names offsets labels o → o ≡ length offsets - 1 → [] ≡ take 1 (badLabels names (length offsets - 1) offsets labels)
   labelled-all h e = rw (← e, h .none)
-
--- COLUMN 3. Where the counts differ, the shorter length is a fault behind all others.
-module _ (objects : ℕ) (targets : List ℕ) (edges : ℕ) where
-  both : (n : ℕ) → min (length targets) edges ≡ n → badTargets objects targets edges ≡ places (noObject objects targets) n ++ cond (eqb (length targets) edges) [] (n ∷ [])
-  unfolding badTargets
-  both n e = rw e
-
-  -- the targets that have labels are the first ones
-  front : edges ≤ length targets → firstPlace (badRoot objects (take edges targets)) (length (take edges targets)) ≡ firstPlace (noObject objects targets) edges
-  front l =
-      rw (length-take-le edges targets l)
-      (ap (λ (xs : List ℕ). getD xs 0 edges) (places-ext (badRoot objects (take edges targets)) (noObject objects targets) edges (λ i m. rw (getD-take edges targets i 0 m))))
-
-  pub targets-more : {e : ℕ} → edges < length targets → e ≡ firstPlace (badRoot objects (take edges targets)) (length (take edges targets)) → e ∷ [] ≡ take 1 (badTargets objects targets edges)
-  targets-more l q =
-      rw (both edges (omega arith), ne-eqb (length targets) edges (λ z. omega arith), q, front (omega arith)) (first-or-end (noObject objects targets) edges)
-
-  module _ (l : length targets ≤ edges) {e : ℕ} (q : e ≡ firstPlace (badRoot objects targets) (length targets)) where
-    pub targets-bad : e < length targets → e ∷ [] ≡ take 1 (badTargets objects targets edges)
-    targets-bad k = rw (both (length targets) (omega arith), q) (first-of (noObject objects targets) (length targets) _ (rw q at k))
-
-    pub targets-few : length targets < edges → e ∷ [] ≡ take 1 (badTargets objects targets edges)
-    targets-few k = rw (both (length targets) (omega arith), ne-eqb (length targets) edges (λ z. omega arith), q) (first-or-end (noObject objects targets) (length targets))
-
-    pub targets-clean : length targets ≤ e → edges ≤ length targets → [] ≡ take 1 (badTargets objects targets edges)
-    targets-clean k m =
-        rw (both (length targets) (omega arith), eq-eqb (length targets) edges (omega arith), none-of-them (noObject objects targets) (length targets) (rw q at k))
 
 -- COLUMN 4. No pair comes before (0, 0).
 least : (a b : ℕ) → ltb 0 a || (eqb 0 a && leb 0 b) ≡ true

@@ -1,24 +1,21 @@
 -- The columns handed to `from_parts`, and the tests of one label and one weak pair as a walk makes them. Assumes nothing.
-use Prim.Native.Nat.{ℕ, _-_}
+use Prim.Native.Nat.{ℕ}
 use mathlib.Core.Bool.{Bool, not}
 use mathlib.Core.List.{List, [], _∷_, _++_}
-use lib.Dec.{leb, ltb}
+use lib.Dec.{leb}
 use lib.ListN.{length}
-use Rattle.columns.specs.Lists.{places, allOf, anyOf}
-use Rattle.rules.specs.Types.{ARRAY-ELEMENT, isElement}
+use Rattle.columns.specs.Lists.{places, anyOf}
 use Rattle.rules.specs.Edges.{Parts, pairLe}
 use Rattle.rules.specs.Needs.{objectsOf}
 use Rattle.rules.specs.Verdict.{badRoot}
-use Rattle.rules.specs.Parts.{inColumn, isNamed, badLabels, badTargets, badPair}
+use Rattle.rules.specs.Parts.{inColumn, badLabels, badTargets, badPair}
+-- one label
+unfoldable pub use Rattle.check_edge.specs.Edge.{labelFault}
 
 -- the columns as one record; the checks do not read the dangling count
 abbrev pub handed : List ℕ → List ℕ → List ℕ → List ℕ → List ℕ → List ℕ → Parts
 handed offsets targets labels weakFrom weakTo roots =
     record { offsets = offsets; labels = labels; targets = targets; weakFrom = weakFrom; weakTo = weakTo; roots = roots; dangling = 0 }
-
--- "Labels below the name count, `LOADER` or elements; elements strictly rise within an object": label l, where an element's index is to be at least n.
-unfoldable pub labelFault : ℕ → ℕ → ℕ → Bool
-labelFault names n l = anyOf (not (isNamed names l) ∷ allOf (isElement l ∷ ltb (l - ARRAY-ELEMENT) n ∷ []) ∷ [])
 
 -- "Weak sorted with both ends in range": the pair (a, b), behind the pair (a₀, b₀).
 unfoldable pub pairFault : ℕ → ℕ → ℕ → ℕ → ℕ → Bool

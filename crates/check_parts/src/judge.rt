@@ -63,7 +63,7 @@ fn judge_edges(
     let objects = offsets::object_count(offsets.len());
     match edges::first_label(names, offsets, labels) {
         Fault::At(p) => refused(2, p),
-        Fault::Nothing => match edges::first_target(targets, labels.len(), objects) {
+        Fault::Nothing => match check_edge::first_target(targets, labels.len(), objects) {
             Fault::At(p) => refused(3, p),
             Fault::Nothing => judge_ends(objects, labels.len(), weak_from, weak_to, roots),
         },

@@ -1,12 +1,11 @@
--- `check_parts::edges::first_target` meets its contract: by which of targets and labels are fewer.  Assumes nothing.
+-- `check_edge::first_target` meets its contract: by which of targets and labels are fewer.  Assumes nothing.
 use mathlib.Core.Path.{sym}
 use lib.Seq.{length-take-le}
-use Rattle.check_parts.proofs.Faults.{targets-more, targets-bad, targets-few, targets-clean}
+use Rattle.check_edge.proofs.Targets.{targets-more, targets-bad, targets-few, targets-clean}
 use native.Mathlib.Omega.{arith}
 use borrow.Author.Needs.{needs}
-use borrow.Author.Needs.{needs}
-use Rattle.check_parts.proofs.edges.first_target.Statement.{statement}
-use Rattle.check_parts.proofs.edges.first_target.Tie as tie
+use Rattle.check_edge.proofs.first_target.Statement.{statement}
+use Rattle.check_edge.proofs.first_target.Tie as tie
 
 slice-aggregate-first-root : tie.Need-slice-aggregate-first-root
 slice-aggregate-first-root c = sym (length-take-le _ _ (omega arith))

@@ -1,12 +1,12 @@
--- `check_parts::edges::label_fault` meets its contract: a field, the loader or an element. Assumes nothing.
+-- `check_edge::label_fault` meets its contract: a field, the loader or an element. Assumes nothing.
 use mathlib.Core.Path.{sym, ap, _∙_}
 use Prim.Native.Nat.{ℕ}
 use lib.Dec.{leb}
-use Rattle.check_parts.proofs.Faults.{label-field, label-loader, label-element}
+use Rattle.check_edge.proofs.Labels.{label-field, label-loader, label-element}
 use native.Mathlib.Omega.{arith}
 use borrow.Author.Needs.{needs}
-use Rattle.check_parts.proofs.edges.label_fault.Statement.{statement}
-use Rattle.check_parts.proofs.edges.label_fault.Tie as tie
+use Rattle.check_edge.proofs.label_fault.Statement.{statement}
+use Rattle.check_edge.proofs.label_fault.Tie as tie
 
 returns : tie.Need-returns
 returns c = let a = c .before .before .args in ap (λ (w : ℕ). leb (a .names) w) (c .index .ensures) ∙ sym (label-field (a .names) (a .next) (a .label) (c .before .if1 .taken))
