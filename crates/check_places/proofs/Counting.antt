@@ -13,7 +13,7 @@ use Rattle.rules.specs.declared.ReferencePolicy.{ReferencePolicy}
 use Rattle.rules.specs.Types.{keeps}
 use Rattle.check_tables.specs.Found.{placeFor}
 use Rattle.check_ids.specs.Spans.{partLength}
-use Rattle.check_place.proofs.Slots.{rest-of}
+use Rattle.check_place_steps.proofs.Slots.{rest-of}
 use Rattle.check_ids.proofs.Parted.{part-array, slots-some}
 use Rattle.check_places.specs.Placing.{oneSlot, oneCode, objectPlaces, isHeld, staticHeld, oneStatic, classPlaces, PartStands}
 

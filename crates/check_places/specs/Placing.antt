@@ -13,8 +13,8 @@ use Rattle.rules.specs.Types.{keeps}
 use Rattle.check_ids.specs.Spans.{partLength}
 use Rattle.check_tables.specs.Found.{placeFor}
 -- "Raw counts every slot, every element", "copied counts kept non-zero slots, non-zero elements": of one object, slot or element; what counting parts asks
-pub use Rattle.check_place.specs.Place.{partAt, oneCode, codesIn, PartTables, PartsIn}
-unfoldable pub use Rattle.check_place.specs.Place.{slotHeld}
+pub use Rattle.check_place_steps.specs.Place.{partAt, oneCode, codesIn, PartTables, PartsIn}
+unfoldable pub use Rattle.check_place_steps.specs.Place.{slotHeld}
 
 -- the slots of an instance
 abbrev pub oneSlot : List ℕ → List ℕ → Bool → ℕ → ℕ → ℕ → ℕ

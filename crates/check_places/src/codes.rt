@@ -24,7 +24,7 @@ fn count_slots(
     let mut sum: u64 = 0;
     let mut k = 0;
     while k < n {
-        sum += check_place::one_slot(kept, slot_weak[first + k], codes[start + k]);
+        sum += check_place_steps::one_slot(kept, slot_weak[first + k], codes[start + k]);
         k += 1;
     }
     sum
@@ -39,7 +39,7 @@ fn count_codes(codes: &[u32], start: usize, n: usize) -> u64
     let mut sum: u64 = 0;
     let mut k = 0;
     while k < n {
-        sum += check_place::one_code(codes[start + k]);
+        sum += check_place_steps::one_code(codes[start + k]);
         k += 1;
     }
     sum

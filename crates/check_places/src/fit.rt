@@ -52,7 +52,7 @@ pub(crate) fn within(
     if ((room - held) as u64) < most {
         return false;
     }
-    check_place::in_order(
+    check_place_steps::in_order(
         kinds,
         classes,
         lengths,

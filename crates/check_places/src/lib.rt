@@ -32,7 +32,7 @@ pub fn raw_places(
         (entry «class_ids») (entry loaders) (entry dumped) (entry «slot_starts») (entry «slot_ends») (entry «static_starts») (entry «static_ends»)
         (entry «static_types») (entry «static_values») ⌝ }
 {
-    let parts = check_place::count_parts(kinds, classes, lengths, slot_starts, slot_ends);
+    let parts = check_place_steps::count_parts(kinds, classes, lengths, slot_starts, slot_ends);
     let held = statics::count_classes(
         ids,
         class_ids,

@@ -7,7 +7,7 @@ use borrow.Author.Tests.{eq-eqb, ne-eqb}
 use lib.Dec.{eqb}
 use Rattle.columns.specs.Lists.{one, allOf, anyOf}
 use Rattle.check_tables.proofs.Even.{two-first, two-second, two-none}
-use Rattle.check_place.specs.Place.{slotHeld}
+use Rattle.check_place_steps.specs.Place.{slotHeld}
 
 -- the second of two tests, where the first holds
 pub rest-of : (a b : Bool) → a ≡ true → allOf (a ∷ b ∷ []) ≡ b

@@ -1,9 +1,9 @@
--- `check_place::one_slot` meets its contract: by the tests. Assumes nothing.
+-- `check_place_steps::one_slot` meets its contract: by the tests. Assumes nothing.
 use mathlib.Core.Path.{_∙_}
-use Rattle.check_place.proofs.Slots.{slot-kept, slot-dropped, slot-strong}
+use Rattle.check_place_steps.proofs.Slots.{slot-kept, slot-dropped, slot-strong}
 use borrow.Author.Needs.{needs}
-use Rattle.check_place.proofs.one_slot.Statement.{statement}
-use Rattle.check_place.proofs.one_slot.Tie as tie
+use Rattle.check_place_steps.proofs.one_slot.Statement.{statement}
+use Rattle.check_place_steps.proofs.one_slot.Tie as tie
 
 returns : tie.Need-returns
 returns c = slot-kept _ _ _ (c .before .if1 .taken) (c .one-code .ensures)

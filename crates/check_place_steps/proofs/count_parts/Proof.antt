@@ -1,14 +1,14 @@
--- `check_place::count_parts` meets its contract: the sum so far is that of the objects before o. Assumes nothing.
+-- `check_place_steps::count_parts` meets its contract: the sum so far is that of the objects before o. Assumes nothing.
 use mathlib.Core.Path.{_≡_, refl, _∙_}
 use Prim.Native.Nat.{_-_, _*_, _≤_, _<_, zero-le}
 use native.Mathlib.Omega.{arith}
 use lib.ListN.{length}
 use Rattle.columns.specs.Lists.{total}
 use Rattle.columns.proofs.Sums.{total-more, total-end}
-use Rattle.check_place.specs.Place.{partAt}
+use Rattle.check_place_steps.specs.Place.{partAt}
 use borrow.Author.Needs.{needs}
-use Rattle.check_place.proofs.count_parts.Statement.{statement}
-use Rattle.check_place.proofs.count_parts.Tie as tie
+use Rattle.check_place_steps.proofs.count_parts.Statement.{statement}
+use Rattle.check_place_steps.proofs.count_parts.Tie as tie
 
 abbrev Inv-loop : tie.InvT-loop
 Inv-loop kinds classes lengths slot-starts slot-ends sum₀ o₀ sum o =

@@ -1,8 +1,8 @@
--- `check_place::one_code` meets its contract: by the test. Assumes nothing.
+-- `check_place_steps::one_code` meets its contract: by the test. Assumes nothing.
 use borrow.Author.Tests.{eq-eqb, ne-eqb}
 use borrow.Author.Needs.{needs}
-use Rattle.check_place.proofs.one_code.Statement.{statement}
-use Rattle.check_place.proofs.one_code.Tie as tie
+use Rattle.check_place_steps.proofs.one_code.Statement.{statement}
+use Rattle.check_place_steps.proofs.one_code.Tie as tie
 
 returns : tie.Need-returns
 returns c = rw (eq-eqb _ _ (c .if1 .taken))

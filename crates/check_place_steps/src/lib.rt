@@ -8,7 +8,7 @@ ghost use lib.ListN.{length};
 ghost use Rattle.columns.specs.Lists.{one, total};
 ghost use Rattle.columns.specs.Loans.{entry};
 ghost use Rattle.check_ids.specs.Copying.{heldCodes};
-ghost use Rattle.check_place.specs.Place.{partAt, slotHeld, codesIn, PartTables, PartsIn};
+ghost use Rattle.check_place_steps.specs.Place.{partAt, slotHeld, codesIn, PartTables, PartsIn};
 use check_ids::spans;
 
 // 1 for a code that is not 0, and for one of a slot that is kept: calls in the place of branches, so that the walks have one way on.

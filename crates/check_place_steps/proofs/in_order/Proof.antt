@@ -1,15 +1,15 @@
--- `check_place::in_order` meets its contract: the parts so far hold no more than the codes up to the end of the last. Assumes nothing.
+-- `check_place_steps::in_order` meets its contract: the parts so far hold no more than the codes up to the end of the last. Assumes nothing.
 use mathlib.Core.Path.{_≡_, refl, sym, ap, _∙_}
 use mathlib.Core.Bool.{false≢true}
 use Prim.Native.Nat.{_+_, _-_, _≤_, _<_, zero-le}
 use native.Mathlib.Omega.{arith}
 use lib.ListN.{length}
 use Rattle.columns.specs.Lists.{_!_, total}
-use Rattle.check_place.specs.Place.{oneCode, codesIn}
-use Rattle.check_place.proofs.Parts.{part-empty, part-behind, part-span, parts-end}
+use Rattle.check_place_steps.specs.Place.{oneCode, codesIn}
+use Rattle.check_place_steps.proofs.Parts.{part-empty, part-behind, part-span, parts-end}
 use borrow.Author.Needs.{needs}
-use Rattle.check_place.proofs.in_order.Statement.{statement}
-use Rattle.check_place.proofs.in_order.Tie as tie
+use Rattle.check_place_steps.proofs.in_order.Statement.{statement}
+use Rattle.check_place_steps.proofs.in_order.Tie as tie
 
 abbrev Inv-loop : tie.InvT-loop
 Inv-loop kinds classes lengths slot-starts slot-ends codes starts end₀ o₀ end o =

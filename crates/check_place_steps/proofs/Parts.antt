@@ -13,7 +13,7 @@ use Rattle.columns.specs.Lists.{_!_, total}
 use Rattle.columns.proofs.Sums.{total-ext, total-le-total}
 use Rattle.check_ids.specs.Copying.{heldCodes}
 use Rattle.check_ids.specs.Spans.{partLength, slotsOf}
-use Rattle.check_place.specs.Place.{partAt, oneCode, codesIn, PartsIn}
+use Rattle.check_place_steps.specs.Place.{partAt, oneCode, codesIn, PartsIn}
 
 -- the codes up to the end of a range: those before it, and its own
 codes-cut : (codes : List ℕ) (a n : ℕ) → total (oneCode codes 0) (a + n) ≡ total (oneCode codes 0) a + total (oneCode codes a) n
