@@ -9,7 +9,7 @@ use lib.ListN.{length, getD}
 use borrow.Author.Tests.{ltb-false, eqb-false}
 use Rattle.columns.specs.Lists.{_!_, allOf, places, firstPlace}
 use Rattle.columns.specs.Columns.{accepts}
-use Rattle.columns.specs.Ranks.{halve, bisect}
+use Rattle.columns.specs.Ranks.{front, halve, behind, bisect}
 use Rattle.columns.proofs.Every.{Every, every-places}
 use Rattle.columns.proofs.Tests.{places-none}
 use Rattle.rules.specs.Types.{ARRAY-ELEMENT}
@@ -82,9 +82,9 @@ abbrev handmade : Columns
 handmade = graphOf (blockedOf (0 ∷ []) (0 ∷ 1 ∷ []) [] []) (0 ∷ []) (codedOf (32767 ∷ []) (5 ∷ []) (0 ∷ []) (5 ∷ [])) [] []
 
 pub escaped-found : fieldFound handmade 0 5 ≡ 0 ∷ 0 ∷ []
-unfolding fieldFound spanOf ended accepts readBack shortBack allOf soughtIn decoded places coarseBack codeBack rowBack bisect halve
+unfolding fieldFound spanOf ended accepts readBack shortBack allOf soughtIn decoded places coarseBack codeBack rowBack bisect front halve behind
 escaped-found = refl
 
 pub escaped-alone : fieldFound handmade 0 4 ≡ 0 ∷ []
-unfolding fieldFound spanOf ended accepts readBack shortBack allOf soughtIn decoded places coarseBack codeBack rowBack bisect halve
+unfolding fieldFound spanOf ended accepts readBack shortBack allOf soughtIn decoded places coarseBack codeBack rowBack bisect front halve behind
 escaped-alone = refl

@@ -12,12 +12,19 @@ ghost use Rattle.rules.specs.Types.{spanSays};
 ghost use Rattle.ask_span.specs.Reading.{spanOf};
 ghost use Rattle.ask_short.specs.Lean.{shortOf};
 
-// The offset at i, where it is short.
+// The offset at i, where it is short. A long one cannot be read here. No search is named, not even one of an empty column: so this is small enough to be
+// compiled into each question.
 fn offset(bases: &[u64], short: &[u16], i: usize) -> Offset
     ensures { λ r. ⌜ offsetSays r ≡ readBack (shortOf (entry bases) (entry short)) i ⌝ }
 {
-    let none: [u32; 0] = [0; 0];
-    store::offset_at(bases, short, &none, &bases[..0], i)
+    if short.len() <= i {
+        return Offset::Index(i);
+    }
+    let above = short[i];
+    if above == 65535 {
+        return Offset::Columns(i);
+    }
+    store::short_at(bases, above, i)
 }
 
 // Where the edges of an object sit, where both its offsets are short and it ends within codes and targets.

@@ -1,4 +1,3 @@
-pub mod Weak
 pub mod Plain
 pub mod Whole
 pub mod Built

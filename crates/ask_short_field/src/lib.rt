@@ -6,15 +6,11 @@ use rules::Label;
 use rules::Referent;
 use rules::Span;
 ghost use mathlib.Core.Path.{_≡_};
-ghost use mathlib.Core.List.{[], _∷_};
 ghost use Prim.Native.Nat.{_+_, _<_, _≤_};
 ghost use lib.ListN.{length};
-ghost use mathlib.Core.Bool.{true};
 ghost use Rattle.columns.specs.Loans.{entry};
-ghost use Rattle.columns.specs.Ranks.{bisect};
 ghost use Rattle.rules.specs.Types.{ARRAY-ELEMENT, fieldSays, referentSays};
-ghost use Rattle.ask_span.specs.Reading.{weakRowsOf};
-ghost use Rattle.ask_field.specs.Sought.{decoded, soughtIn, fieldFound, firstWeak, referentFound};
+ghost use Rattle.ask_field.specs.Sought.{decoded, soughtIn, fieldFound, referentFound};
 ghost use Rattle.ask_short.specs.Lean.{plainOf, leanColumns, leanEdges};
 
 // The first edge with a field's label, by one look into the fields. Elements are passed over; an escape cannot be read here.
@@ -87,55 +83,8 @@ pub fn field(
     }
 }
 
-// Whether bisection meets no number that is x: then it ends for x and for the next number at one place.
-fn absent(xs: &[u32], x: u64) -> bool
-    ensures { λ r. ⌜ (r ≡ true → bisect (entry xs) x ≡ bisect (entry xs) (x + 1)) ⌝ }
-{
-    let mut lo = 0;
-    let mut hi = xs.len();
-    while lo < hi {
-        let mid = lo + (hi - lo) / 2;
-        let v = columns::wide(xs[mid]);
-        if v == x {
-            return false;
-        }
-        if v < x {
-            lo = mid + 1;
-        } else {
-            hi = mid;
-        }
-    }
-    true
-}
-
-// Whether an object is seen to have no weak pair by one bisection.
-fn no_weak(short: &[u16], weak_from: &[u32], weak_to: &[u32], object: usize) -> bool
-    ensures { λ r. ⌜ (r ≡ true → firstWeak (weakRowsOf (length (entry short)) (entry «weak_from») (entry «weak_to») object) (entry «weak_to») ≡ 0 ∷ []) ⌝ }
-{
-    if short.len() <= object {
-        return false;
-    }
-    if short.len() - object < 2 {
-        return false;
-    }
-    if weak_to.len() < weak_from.len() {
-        return false;
-    }
-    absent(weak_from, object as u64)
-}
-
-// The first of an object's weak targets. Few objects have one, so that is looked at first.
-fn first_weak(short: &[u16], weak_from: &[u32], weak_to: &[u32], object: usize) -> Referent
-    ensures { λ r. ⌜ referentSays r ≡ firstWeak (weakRowsOf (length (entry short)) (entry «weak_from») (entry «weak_to») object) (entry «weak_to») ⌝ }
-{
-    let none = no_weak(short, weak_from, weak_to, object);
-    if none {
-        return Referent::Nothing;
-    }
-    ask_field::first_weak(short, weak_from, weak_to, object)
-}
-
-// The target of a field of an object, or where it has none its smallest weak target.
+// The target of a field of an object, or where it has none its smallest weak target. It does not ask `field`: a function of one caller is compiled into
+// its caller, one of two is called, with its columns written to memory and read back.
 pub fn referent(
     bases: &[u64],
     short: &[u16],
@@ -149,11 +98,17 @@ pub fn referent(
 ) -> Referent
     ensures { λ r. ⌜ referentSays r ≡ referentFound (leanColumns entry bases short «edge_codes» targets fields «weak_from» «weak_to») object label ⌝ }
 {
-    let held = field(bases, short, edge_codes, targets, fields, object, label);
-    match held {
-        Field::Target(t) => Referent::Target(t),
-        Field::Nothing => first_weak(short, weak_from, weak_to, object),
-        Field::Index(i) => Referent::Index(i),
-        Field::Columns(o) => Referent::Columns(o),
+    let at = ask_short::span(bases, short, edge_codes.len(), targets.len(), object);
+    match at {
+        Span::Edges { start, end } => {
+            let sought = seek(edge_codes, start, end - start, fields, label);
+            match sought {
+                Sought::At(k) => Referent::Target(ask_field::target_at(targets, start + k)),
+                Sought::Nothing => ask_field::first_weak(short, weak_from, weak_to, object),
+                Sought::Bad => Referent::Columns(object),
+            }
+        }
+        Span::Index(i) => Referent::Index(i),
+        Span::Columns(o) => Referent::Columns(o),
     }
 }

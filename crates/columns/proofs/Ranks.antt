@@ -10,58 +10,114 @@ use borrow.Author.Tests.{lt-ltb, le-ltb}
 use lib.Dec.{ltb}
 use lib.ListN.{length}
 use Rattle.columns.specs.Lists.{_!_, one}
-use Rattle.columns.specs.Ranks.{Rises, Climbs, rank, Ranked, halve, bisect}
+use Rattle.columns.specs.Ranks.{Rises, Climbs, rank, Ranked, front, halve, behind, bisect}
 use Rattle.columns.proofs.Lists.{lt-or-ge}
 
--- between lo and hi the bisection that is left ends at r
-pub record Bisecting (xs : List ℕ) (x lo hi r : ℕ) : Type 0 where
-  pub lo-le : lo ≤ hi
-  pub hi-le : hi ≤ length xs
-  pub fuel : ℕ
-  pub enough : hi - lo ≤ fuel
-  pub ends : halve fuel xs x lo hi ≡ r
+-- One halving: the front that is left, and how far it reaches.
+module _ (xs : List ℕ) (x lo n : ℕ) where
+  pub front-below : xs ! (lo + n / 2) < x → front xs x lo n ≡ lo + n / 2
+  unfolding front
+  front-below h = rw (lt-ltb _ _ h)
 
-pub bisecting-start : (xs : List ℕ) (x : ℕ) → Bisecting xs x 0 (length xs) (bisect xs x)
-unfolding bisect
-bisecting-start xs x = record { lo-le = zero-le; hi-le = omega arith; fuel = length xs; enough = omega arith; ends = refl }
+  pub front-above : x ≤ xs ! (lo + n / 2) → front xs x lo n ≡ lo
+  unfolding front
+  front-above h = rw (le-ltb _ _ h)
 
-module _ {xs : List ℕ} {x lo hi r : ℕ} (b : Bisecting xs x lo hi r) where
-  pub bisecting-up : lo < hi → xs ! (lo + (hi - lo) / 2) < x → Bisecting xs x (lo + (hi - lo) / 2 + 1) hi r
-  unfolding halve
-  bisecting-up h l = go (b .fuel) (b .enough) (b .ends)
-    where
-      go : (f : ℕ) → hi - lo ≤ f → halve f xs x lo hi ≡ r → Bisecting xs x (lo + (hi - lo) / 2 + 1) hi r
-      go zero e s = absurd (omega arith)
-      go (suc f) e s = record { lo-le = omega arith; hi-le = b .hi-le; fuel = f; enough = omega arith; ends = simp (lt-ltb _ _ h, lt-ltb _ _ l) at s }
+  front-reach : front xs x lo n ≤ lo + n / 2
+  front-reach = ⊎-elim (λ h. omega (arith, front-below h)) (λ h. omega (arith, front-above h)) (lt-or-ge (xs ! (lo + n / 2)) x)
 
-  pub bisecting-down : lo < hi → x ≤ xs ! (lo + (hi - lo) / 2) → Bisecting xs x lo (lo + (hi - lo) / 2) r
-  unfolding halve
-  bisecting-down h l = go (b .fuel) (b .enough) (b .ends)
-    where
-      go : (f : ℕ) → hi - lo ≤ f → halve f xs x lo hi ≡ r → Bisecting xs x lo (lo + (hi - lo) / 2) r
-      go zero e s = absurd (omega arith)
-      go (suc f) e s = record { lo-le = omega arith; hi-le = omega (arith, b .hi-le); fuel = f; enough = omega arith; ends = simp (lt-ltb _ _ h, le-ltb _ _ l) at s }
+  -- the middle stands in the column, and so does all that is left
+  pub middle-in : (0 < n) × (lo + n ≤ length xs) → lo + n / 2 < length xs
+  middle-in h = omega (arith, h .0, h .1)
 
-  pub bisecting-end : hi ≤ lo → lo ≡ r
-  unfolding halve
-  bisecting-end h = go (b .fuel) (b .ends)
-    where
-      go : (f : ℕ) → halve f xs x lo hi ≡ r → lo ≡ r
-      go zero s = s
-      go (suc f) s = simp (le-ltb _ _ h) at s
+  pub front-in : (r : ℕ) → r ≡ front xs x lo n → (0 < n) × (lo + n ≤ length xs) → (0 < n - n / 2) × (r + (n - n / 2) ≤ length xs)
+  front-in r e h = (omega (arith, h .0), omega (arith, e, h .1, front-reach))
 
-halve-within : (f : ℕ) (xs : List ℕ) (x lo hi : ℕ) → lo ≤ hi → halve f xs x lo hi ≤ hi
+  front-one : n ≤ 1 → front xs x lo n ≡ lo
+  front-one o = ⊎-elim (λ h. omega (arith, front-below h)) (λ h. omega (arith, front-above h)) (lt-or-ge (xs ! (lo + n / 2)) x)
+
+halve-one : (f : ℕ) (xs : List ℕ) (x lo n : ℕ) → n ≤ 1 → halve f xs x lo n ≡ lo
 unfolding halve
-halve-within zero xs x lo hi h = h
-halve-within (suc f) xs x lo hi h =
+halve-one zero xs x lo n h = refl
+halve-one (suc f) xs x lo n h = rw (front-one xs x lo n h) (halve-one f xs x lo (n - n / 2) (omega arith))
+
+-- among the n numbers from lo on the bisection that is left ends at r
+pub record Bisecting (xs : List ℕ) (x lo n r : ℕ) : Type 0 where
+  pub not-none : 0 < n
+  pub within : lo + n ≤ length xs
+  pub fuel : ℕ
+  pub enough : n ≤ suc fuel
+  pub ends : behind xs x (halve fuel xs x lo n) ≡ r
+
+pub bisecting-start : (xs : List ℕ) (x : ℕ) → 0 < length xs → Bisecting xs x 0 (length xs) (bisect xs x)
+unfolding bisect
+bisecting-start xs x h =
+    record { not-none = h; within = omega arith; fuel = length xs; enough = omega arith; ends = rw (lt-ltb 0 (length xs) h) }
+
+pub bisect-empty : (xs : List ℕ) (x : ℕ) → length xs ≤ 0 → bisect xs x ≡ 0
+unfolding bisect
+bisect-empty xs x h = rw (le-ltb 0 (length xs) h)
+
+module _ {xs : List ℕ} {x lo n r : ℕ} (b : Bisecting xs x lo n r) where
+  pub bisecting-on : Bisecting xs x (front xs x lo n) (n - n / 2) r
+  unfolding halve
+  bisecting-on = go (b .fuel) (b .enough) (b .ends)
+    where
+      go : (f : ℕ) → n ≤ suc f → behind xs x (halve f xs x lo n) ≡ r → Bisecting xs x (front xs x lo n) (n - n / 2) r
+      go zero e s =
+          record { not-none = omega (arith, b .not-none); within = omega (arith, b .within, front-reach xs x lo n); fuel = 0; enough = omega arith; ends = rw (front-one xs x lo n e) s }
+      go (suc f) e s =
+          record { not-none = omega (arith, b .not-none); within = omega (arith, b .within, front-reach xs x lo n); fuel = f; enough = omega arith; ends = s }
+
+  pub bisecting-end : n ≤ 1 → behind xs x lo ≡ r
+  bisecting-end h = ap (behind xs x) (sym (halve-one (b .fuel) xs x lo n h)) ∙ b .ends
+
+-- two halvings leave a fourth, and four a sixteenth
+left-two : (n : ℕ) → n - n / 2 - (n - n / 2) / 2 ≡ (n + 3) / 4
+left-two n = omega arith
+
+left-four : (n : ℕ) → ((n + 3) / 4 + 3) / 4 ≡ (n + 15) / 16
+left-four n = omega arith
+
+pub bisecting-four : {xs : List ℕ} {x lo n r : ℕ} → Bisecting xs x lo n r → (p : ℕ) → p ≡ halve 4 xs x lo n → Bisecting xs x p ((n + 15) / 16) r
+unfolding halve
+bisecting-four {xs} {x} {lo} {n} {r} b p s =
+    let half = n - n / 2 in
+    let e = left-two (half - half / 2) ∙ ap (λ (m : ℕ). (m + 3) / 4) (left-two n) ∙ left-four n in
+    rw (s, ← e) (bisecting-on (bisecting-on (bisecting-on (bisecting-on b))))
+
+-- twelve halvings of at most 4,096 leave one number
+pub bisecting-twelve : {xs : List ℕ} {x lo n r : ℕ} → Bisecting xs x lo n r → n ≤ 4096 → (a b p : ℕ)
+    → a ≡ halve 4 xs x lo n → b ≡ halve 4 xs x a ((n + 15) / 16) → p ≡ halve 4 xs x b (((n + 15) / 16 + 15) / 16)
+    → (p < length xs) × (behind xs x p ≡ r)
+bisecting-twelve h few a b p ea eb ep =
+    let d = bisecting-four (bisecting-four (bisecting-four h a ea) b eb) p ep in (omega (arith, d .not-none, d .within), bisecting-end d (omega arith))
+
+halve-within : (f : ℕ) (xs : List ℕ) (x lo n : ℕ) → 0 < n → halve f xs x lo n < lo + n
+unfolding halve
+halve-within zero xs x lo n h = omega arith
+halve-within (suc f) xs x lo n h = omega (arith, halve-within f xs x (front xs x lo n) (n - n / 2) (omega arith), front-reach xs x lo n)
+
+-- the last look
+module _ (xs : List ℕ) (x p : ℕ) where
+  pub behind-below : xs ! p < x → behind xs x p ≡ p + 1
+  unfolding behind
+  behind-below h = rw (lt-ltb (xs ! p) x h)
+
+  pub behind-above : x ≤ xs ! p → behind xs x p ≡ p
+  unfolding behind
+  behind-above h = rw (le-ltb (xs ! p) x h)
+
+  behind-within : behind xs x p ≤ p + 1
+  behind-within = ⊎-elim (λ h. omega (arith, behind-below h)) (λ h. omega (arith, behind-above h)) (lt-or-ge (xs ! p) x)
+
+bisect-within : (xs : List ℕ) (x : ℕ) → bisect xs x ≤ length xs
+unfolding bisect
+bisect-within xs x =
     ⊎-elim
-    (λ g. rw (lt-ltb lo hi g)
-    (⊎-elim
-    (λ l. rw (lt-ltb (xs ! (lo + (hi - lo) / 2)) x l) (halve-within f xs x (lo + (hi - lo) / 2 + 1) hi (omega arith)))
-    (λ l. rw (le-ltb (xs ! (lo + (hi - lo) / 2)) x l) (omega (arith, halve-within f xs x lo (lo + (hi - lo) / 2) (omega arith))))
-    (lt-or-ge (xs ! (lo + (hi - lo) / 2)) x)))
-    (λ g. rw (le-ltb lo hi g) h)
-    (lt-or-ge lo hi)
+    (λ h. rw (lt-ltb 0 (length xs) h) (omega (arith, behind-within xs x (halve (length xs) xs x 0 (length xs)), halve-within (length xs) xs x 0 (length xs) h)))
+    (λ h. rw (le-ltb 0 (length xs) h) zero-le)
+    (lt-or-ge 0 (length xs))
 
 -- where all before r is below x and the rest is not, it ends at r
 module _ (xs : List ℕ) (x r : ℕ) (below : (p : ℕ) → p < r → xs ! p < x) (above : (p : ℕ) → r ≤ p → p < length xs → x ≤ xs ! p) where
@@ -72,18 +128,29 @@ module _ (xs : List ℕ) (x r : ℕ) (below : (p : ℕ) → p < r → xs ! p < x
   right : (m : ℕ) → x ≤ xs ! m → r ≤ m
   right m h = ⊎-elim (λ g. absurd (omega (arith, below m g))) (λ g. g) (lt-or-ge m r)
 
-  pub halve-ends : (f lo hi : ℕ) → lo ≤ r → r ≤ hi → hi ≤ length xs → hi - lo ≤ f → halve f xs x lo hi ≡ r
-  unfolding halve
-  halve-ends zero lo hi a b c d = omega arith
-  halve-ends (suc f) lo hi a b c d =
+  behind-ends : (lo : ℕ) → lo < length xs → lo ≤ r → r ≤ lo + 1 → behind xs x lo ≡ r
+  behind-ends lo h a b =
       ⊎-elim
-      (λ h. rw (lt-ltb lo hi h)
-      (⊎-elim
-      (λ l. rw (lt-ltb (xs ! (lo + (hi - lo) / 2)) x l) (halve-ends f (lo + (hi - lo) / 2 + 1) hi (omega (arith, left (lo + (hi - lo) / 2) (omega arith) l)) b c (omega arith)))
-      (λ l. rw (le-ltb (xs ! (lo + (hi - lo) / 2)) x l) (halve-ends f lo (lo + (hi - lo) / 2) a (right (lo + (hi - lo) / 2) l) (omega arith) (omega arith)))
-      (lt-or-ge (xs ! (lo + (hi - lo) / 2)) x)))
-      (λ h. rw (le-ltb lo hi h) (omega arith))
-      (lt-or-ge lo hi)
+      (λ l. omega (arith, behind-below xs x lo l, left lo h l))
+      (λ l. omega (arith, behind-above xs x lo l, right lo l))
+      (lt-or-ge (xs ! lo) x)
+
+  halve-ends : (f lo n : ℕ) → 0 < n → lo + n ≤ length xs → lo ≤ r → r ≤ lo + n → n ≤ suc f → behind xs x (halve f xs x lo n) ≡ r
+  unfolding halve
+  halve-ends zero lo n o c a b d = behind-ends lo (omega arith) a (omega arith)
+  halve-ends (suc f) lo n o c a b d =
+      ⊎-elim
+      (λ l. halve-ends f (front xs x lo n) (n - n / 2) (omega arith) (omega (arith, front-below xs x lo n l)) (omega (arith, front-below xs x lo n l, left (lo + n / 2) (omega arith) l)) (omega (arith, front-below xs x lo n l)) (omega arith))
+      (λ l. halve-ends f (front xs x lo n) (n - n / 2) (omega arith) (omega (arith, front-above xs x lo n l)) (omega (arith, front-above xs x lo n l)) (omega (arith, front-above xs x lo n l, right (lo + n / 2) l)) (omega arith))
+      (lt-or-ge (xs ! (lo + n / 2)) x)
+
+  pub bisect-ends : r ≤ length xs → bisect xs x ≡ r
+  unfolding bisect
+  bisect-ends h =
+      ⊎-elim
+      (λ l. rw (lt-ltb 0 (length xs) l) (halve-ends (length xs) 0 (length xs) l (omega arith) zero-le (omega arith) (omega arith)))
+      (λ l. rw (le-ltb 0 (length xs) l) (omega arith))
+      (lt-or-ge 0 (length xs))
 
 -- The rank, one number more at the front at a time.
 pub rank-within : (xs : List ℕ) (x : ℕ) → rank xs x ≤ length xs
@@ -129,8 +196,7 @@ climbs-above (a ∷ xs) x h i m l = go (lt-or-ge a x) i m l (climbs-above xs x (
     go (inr q) (suc i) m l ih = omega (arith, head-least a xs h i (omega arith))
 
 pub bisect-climbs : (xs : List ℕ) (x : ℕ) → Climbs xs → bisect xs x ≡ rank xs x
-unfolding bisect
-bisect-climbs xs x h = halve-ends xs x (rank xs x) (climbs-below xs x h) (climbs-above xs x h) (length xs) 0 (length xs) zero-le (rank-within xs x) (omega arith) (omega arith)
+bisect-climbs xs x h = bisect-ends xs x (rank xs x) (climbs-below xs x h) (climbs-above xs x h) (rank-within xs x)
 
 -- A list that rises never falls.
 rises-climbs : (xs : List ℕ) → Rises xs → Climbs xs
@@ -148,17 +214,15 @@ module _ (xs : List ℕ) (x : ℕ) (rise : Rises xs) where
   bisect-rank = bisect-climbs xs x (rises-climbs xs rise)
 
 pub bisect-ranked : (xs : List ℕ) (x r : ℕ) → r ≡ bisect xs x → Ranked xs x r
-unfolding bisect
-bisect-ranked xs x r e = record { within = rw e (halve-within (length xs) xs x 0 (length xs) zero-le); ranked = λ rise. e ∙ bisect-rank xs x rise }
+bisect-ranked xs x r e = record { within = rw e (bisect-within xs x); ranked = λ rise. e ∙ bisect-rank xs x rise }
 
 -- In a list that rises, bisection for a number that stands there ends where it stands.
 pub bisect-found : (xs : List ℕ) (k : ℕ) → Rises xs → k < length xs → bisect xs (xs ! k) ≡ k
-unfolding bisect
 bisect-found xs k rise l =
-    halve-ends xs (xs ! k) k
+    bisect-ends xs (xs ! k) k
     (λ p h. rise p k h l)
     (λ p h lp. ⊎-elim (λ g. omega (arith, rise k p g lp)) (λ g. let e : p ≡ k = omega arith in rw e (omega arith)) (lt-or-ge k p))
-    (length xs) 0 (length xs) zero-le (omega arith) (omega arith) (omega arith)
+    (omega arith)
 
 -- The rank is the one place that has the smaller numbers before it and the others from it on.
 module _ (xs : List ℕ) (x : ℕ) (rise : Rises xs) where

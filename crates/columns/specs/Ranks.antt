@@ -24,14 +24,19 @@ pub record Ranked (xs : List ℕ) (x r : ℕ) : Type 0 where
   pub within : r ≤ length xs
   pub ranked : Rises xs → r ≡ rank xs x
 
--- Bisection from lo up to hi, on any column: the middle number says which half is left. The first argument bounds the halvings.
+-- Bisection, on any column, of the n numbers from lo on: the half that is left starts with the middle one where that is below x, else at lo.
+unfoldable pub front : List ℕ → ℕ → ℕ → ℕ → ℕ
+front xs x lo n = cond (ltb (xs ! (lo + n / 2)) x) (lo + n / 2) lo
+
+-- So many halvings. One number cannot be halved, so it does not matter how many more there are.
 unfoldable pub halve : ℕ → List ℕ → ℕ → ℕ → ℕ → ℕ
-halve zero xs x lo hi = lo
-halve (suc k) xs x lo hi =
-    cond (ltb lo hi)
-    (cond (ltb (xs ! (lo + (hi - lo) / 2)) x) (halve k xs x (lo + (hi - lo) / 2 + 1) hi) (halve k xs x lo (lo + (hi - lo) / 2)))
-    lo
+halve zero xs x lo n = lo
+halve (suc k) xs x lo n = halve k xs x (front xs x lo n) (n - n / 2)
+
+-- the place p, or the one behind it where the number at p is below x
+unfoldable pub behind : List ℕ → ℕ → ℕ → ℕ
+behind xs x p = cond (ltb (xs ! p) x) (p + 1) p
 
 -- where bisection of the whole column ends: on a column that rises, the rank
 unfoldable pub bisect : List ℕ → ℕ → ℕ
-bisect xs x = halve (length xs) xs x 0 (length xs)
+bisect xs x = cond (ltb 0 (length xs)) (behind xs x (halve (length xs) xs x 0 (length xs))) 0

@@ -4,7 +4,7 @@ use mathlib.Core.List.{[]}
 use lib.Count.{trailingZeros}
 use Rattle.columns.specs.Lists.{tab, places, allOf, anyOf, any}
 use Rattle.columns.specs.Columns.{over, padded, accepts, leaves}
-use Rattle.columns.specs.Ranks.{rank, halve, bisect}
+use Rattle.columns.specs.Ranks.{rank, front, halve, behind, bisect}
 use Rattle.store.specs.Blocked.{blocked, longBack, shortBack}
 use Rattle.store.specs.Blocked as store
 use Rattle.index.specs.Copied.{inline, codeOf, copiedOf, whole, escapeBack, idBack}
@@ -31,7 +31,7 @@ use Rattle.rules.specs.Each.{firstRefused, eachSays, eachLeft}
 use Rattle.rules.specs.Worked.{wrong, table, graphCases, enough, empty}
 
 pub worked : wrong table ≡ []
-unfolding table graphCases enough empty tab places allOf anyOf any over padded accepts leaves rank halve bisect blocked longBack shortBack store.readBack inline
+unfolding table graphCases enough empty tab places allOf anyOf any over padded accepts leaves rank front halve behind bisect blocked longBack shortBack store.readBack inline
     codeOf copiedOf whole escapeBack idBack keeps slotCount elementCount copiedId rawId idAt slotId elementSpot elementId fits slotFits readSlots
     slotKept foundAt classesAt slotRef elementRef staticRef staticRefs loaderRef classRefs slotRefs otherRefs refs outcome edgesOf weakTargets missingAt edges
     offset weakPairs distinctRoots graph hasPlace refPlace unread placesOf placeCount named occurring listed ranked fieldsOf fieldCode codeTable codesOf

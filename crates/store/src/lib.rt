@@ -3,6 +3,7 @@ pub mod code;
 
 pub use store_read::Offset;
 pub use store_read::offset_at;
+pub use store_read::short_at;
 ghost use lib.ListN.{length};
 ghost use Rattle.columns.specs.Loans.{entry, exit};
 ghost use Rattle.store.specs.Blocked.{Coding};

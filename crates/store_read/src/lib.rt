@@ -1,6 +1,7 @@
 // One offset read back from its four columns. `store` codes them, and passes this on.
 mod read;
 
+pub use read::short_at;
 ghost use mathlib.Core.Path.{_≡_};
 ghost use Rattle.columns.specs.Loans.{entry};
 ghost use Rattle.store_read.specs.Back.{offsetSays, blockedOf, readBack};

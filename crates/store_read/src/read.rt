@@ -20,7 +20,8 @@ pub(crate) fn long_at(long_at: &[u32], long_value: &[u64], i: usize) -> Offset
     Offset::Value(long_value[k])
 }
 
-pub(crate) fn short_at(bases: &[u64], s: u16, i: usize) -> Offset
+// A short number on its block's base.
+pub fn short_at(bases: &[u64], s: u16, i: usize) -> Offset
     ensures { λ r. ⌜ offsetSays r ≡ shortBack (now (bases .entry)) s i ⌝ }
 {
     let b = i / 256;
