@@ -215,7 +215,8 @@ pub fn times(objects: u64, near: bool) {
         let his_work = his::side::operations(&his, &his_graph, &case, route, RUNS);
         for ((what, our_work), (_, his_work)) in our_work.iter().zip(&his_work) {
             let what = format!("{what}, {route:?}, {objects} objects, targets {}", bench::lie(near));
-            bench::by_turns(&what, RUNS, our_work, his_work);
+            let aim = what.starts_with("dominators").then_some(1.0);
+            bench::by_turns(&what, RUNS, aim, our_work, his_work);
             if route == Route::Raw {
                 break;
             }
