@@ -6,7 +6,7 @@ use mathlib.Core.List.{List, [], _∷_, map}
 use Prim.Native.Nat.{ℕ, suc, _+_, _-_, _≤_, _<_}
 use native.Mathlib.Omega.{arith}
 use native.Mathlib.Numerals.{add-one}
-use borrow.Author.Tests.{leb-true, le-leb, lt-ltb, le-ltb, ltb-true, ltb-false, eqb-true, not-true, not-false}
+use borrow.Author.Tests.{leb-true, le-leb, lt-ltb, le-ltb, ltb-true, ltb-false, eqb-true, eqb-false, not-true, not-false}
 use lib.Dec.{ltb, leb, eqb}
 use lib.ListN.{length}
 use Rattle.columns.specs.Lists.{_!_, allOf}
@@ -14,14 +14,14 @@ use Rattle.columns.specs.Columns.{accepts}
 use Rattle.columns.specs.Ranks.{Climbs, rank, bisect}
 use Rattle.columns.proofs.Lists.{lt-or-ge, tab-length}
 use Rattle.columns.proofs.Tests.{each-of, any-false, second-fails}
-use Rattle.columns.proofs.Ranks.{bisect-climbs, rank-within}
+use Rattle.columns.proofs.Ranks.{bisect-climbs, climbs-next, rank-within}
 use Rattle.store.specs.Blocked.{Blocked, readBack}
 use Rattle.rules.specs.Edges.{Edge, pairLe}
 use Rattle.rules.specs.Parts.{pairAt, unsorted}
 use Rattle.rules.specs.Questions.{Columns, asked, objectsIn, offsetAt, edgesIn, edgeAt, edgesRead, readsBack, weakReads, span, edgeCount, weakReferents, Promised}
 use Rattle.rules.proofs.Asked.{targets-part}
 use Rattle.rules.proofs.Weak.{Sorted, pair-climbs}
-use Rattle.ask_span.specs.Reading.{ended, spanOf, countOf, spanPart, weakRowsOf}
+use Rattle.ask_span.specs.Reading.{ended, spanOf, countOf, spanPart, weakEnd, weakRowsOf}
 -- the part that a span says, where it is one of the column's
 pub use Rattle.ask_part.proofs.Parts.{part-falls, part-past, part-is}
 
@@ -171,14 +171,24 @@ module _ (c : Columns) (o : ℕ) where
   unfolding weakReads
   weak-paired h = eqb-true _ _ (each-of _ h 0)
 
+  -- on pairs that are sorted the rows end at the rank of the next object
+  weak-end : weakReads c ≡ true → weakEnd (c .weakFrom) o (rank (c .weakFrom) o) ≡ rank (c .weakFrom) (suc o)
+  unfolding weakEnd allOf
+  weak-end h = go (ltb (rank (c .weakFrom) o) (length (c .weakFrom))) refl (eqb (c .weakFrom ! rank (c .weakFrom) o) o) refl
+    where
+      go : (a : Bool) → ltb (rank (c .weakFrom) o) (length (c .weakFrom)) ≡ a → (b : Bool) → eqb (c .weakFrom ! rank (c .weakFrom) o) o ≡ b
+          → cond (allOf (a ∷ b ∷ [])) (bisect (c .weakFrom) (o + 1)) (rank (c .weakFrom) o) ≡ rank (c .weakFrom) (suc o)
+      go true e true d = rw (add-one o) (bisect-climbs (c .weakFrom) (suc o) (weak-climbs h))
+      go true e false d = rw (← add-one o) (sym (climbs-next (c .weakFrom) o (weak-climbs h) (λ l q. eqb-false _ _ d q)))
+      go false e b d = rw (← add-one o) (sym (climbs-next (c .weakFrom) o (weak-climbs h) (λ l q. absurd (omega (arith, ltb-false (rank (c .weakFrom) o) (length (c .weakFrom)) e)))))
+
   pub weak-read : o < objectsIn c → weakReads c ≡ true → weakRowsOf (length (c .offsets .short)) (c .weakFrom) (c .weakTo) o ≡ 0 ∷ rank (c .weakFrom) o ∷ rank (c .weakFrom) (suc o) ∷ []
   unfolding weakRowsOf allOf
   weak-read l h =
       rw (
         lt-ltb o (objectsIn c) l,
-        add-one o,
         bisect-climbs (c .weakFrom) o (weak-climbs h),
-        bisect-climbs (c .weakFrom) (suc o) (weak-climbs h),
+        weak-end h,
         le-leb (rank (c .weakFrom) o) (rank (c .weakFrom) (suc o)) (rank-next (c .weakFrom) o),
         le-leb (rank (c .weakFrom) (suc o)) (length (c .weakTo)) (omega (arith, rank-within (c .weakFrom) (suc o), weak-paired h)),
       )
@@ -189,7 +199,7 @@ module _ (c : Columns) (o : ℕ) where
 
   pub weak-columns : eqb (weakRowsOf (length (c .offsets .short)) (c .weakFrom) (c .weakTo) o ! 0) 12 ≡ true → weakRowsOf (length (c .offsets .short)) (c .weakFrom) (c .weakTo) o ≡ 12 ∷ o ∷ []
   unfolding weakRowsOf
-  weak-columns = columns-only (ltb o (objectsIn c)) (allOf (leb (bisect (c .weakFrom) o) (bisect (c .weakFrom) (o + 1)) ∷ leb (bisect (c .weakFrom) (o + 1)) (length (c .weakTo)) ∷ [])) o _
+  weak-columns = columns-only (ltb o (objectsIn c)) (allOf (leb (bisect (c .weakFrom) o) (weakEnd (c .weakFrom) o (bisect (c .weakFrom) o)) ∷ leb (weakEnd (c .weakFrom) o (bisect (c .weakFrom) o)) (length (c .weakTo)) ∷ [])) o _
 
   pub weak-promised : Promised o (weakRowsOf (length (c .offsets .short)) (c .weakFrom) (c .weakTo) o) (weakReferents c o)
   unfolding weakReferents
@@ -210,12 +220,15 @@ pub weak-inside : (short : ℕ) (from to : List ℕ) (o : ℕ) {a b : ℕ} → w
 unfolding weakRowsOf
 weak-inside short from to o {a} {b} e = go (ltb o (short - 1)) (allOf rows) refl e
   where
-    rows : List Bool
-    rows = leb (bisect from o) (bisect from (o + 1)) ∷ leb (bisect from (o + 1)) (length to) ∷ []
+    end : ℕ
+    end = weakEnd from o (bisect from o)
 
-    go : (t u : Bool) → allOf rows ≡ u → cond t (cond u (0 ∷ bisect from o ∷ bisect from (o + 1) ∷ []) (12 ∷ o ∷ [])) (11 ∷ o ∷ []) ≡ 0 ∷ a ∷ b ∷ [] → b ≤ length to
+    rows : List Bool
+    rows = leb (bisect from o) end ∷ leb end (length to) ∷ []
+
+    go : (t u : Bool) → allOf rows ≡ u → cond t (cond u (0 ∷ bisect from o ∷ end ∷ []) (12 ∷ o ∷ [])) (11 ∷ o ∷ []) ≡ 0 ∷ a ∷ b ∷ [] → b ≤ length to
     go true true h e =
-        let end : bisect from (o + 1) ≡ b = ap (λ (xs : List ℕ). xs ! 2) e in
-        omega (arith, leb-true (bisect from (o + 1)) (length to) (each-of rows h 1))
+        let last : end ≡ b = ap (λ (xs : List ℕ). xs ! 2) e in
+        omega (arith, leb-true end (length to) (each-of rows h 1))
     go true false h e = absurd (omega (arith, ap (λ (xs : List ℕ). xs ! 0) e))
     go false u h e = absurd (omega (arith, ap (λ (xs : List ℕ). xs ! 0) e))

@@ -9,7 +9,7 @@ use Rattle.columns.specs.Columns.{accepts}
 use Rattle.store.specs.Blocked.{Blocked, readBack}
 -- the part of a column that a span says, and the rows of weak pairs
 unfoldable pub use Rattle.ask_part.specs.Part.{spanPart}
-unfoldable pub use Rattle.ask_weak.specs.Rows.{weakRowsOf}
+unfoldable pub use Rattle.ask_weak.specs.Rows.{weakEnd, weakRowsOf}
 
 -- From the two answers of reading an offset: COLUMNS where one is refused, where they fall, or where they end past codes or targets.
 unfoldable pub ended : List ℕ → List ℕ → ℕ → ℕ → ℕ → List ℕ

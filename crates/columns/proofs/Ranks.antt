@@ -3,7 +3,7 @@ use mathlib.Core.Path.{_≡_, refl, sym, ap, _∙_}
 use mathlib.Core.Logic.{_⊎_, inl, inr, ⊎-elim}
 use mathlib.Core.List.{List, [], _∷_}
 use Prim.Native.Nat.{ℕ, zero, suc, _+_, _-_, _/_, _≤_, _<_, zero-le}
-use native.Mathlib.Nat.{add-suc, not-suc-le-zero}
+use native.Mathlib.Nat.{add-zero, add-suc, not-suc-le-zero}
 use native.Mathlib.Numerals.{add-one}
 use native.Mathlib.Omega.{arith}
 use borrow.Author.Tests.{lt-ltb, le-ltb}
@@ -197,6 +197,24 @@ climbs-above (a ∷ xs) x h i m l = go (lt-or-ge a x) i m l (climbs-above xs x (
 
 pub bisect-climbs : (xs : List ℕ) (x : ℕ) → Climbs xs → bisect xs x ≡ rank xs x
 bisect-climbs xs x h = bisect-ends xs x (rank xs x) (climbs-below xs x h) (climbs-above xs x h) (rank-within xs x)
+
+-- Where no x stands at the rank of x, none stands behind it: the rank of the next number is the same.
+pub climbs-next : (xs : List ℕ) (x : ℕ) → Climbs xs → (rank xs x < length xs → xs ! rank xs x ≡ x → ⊥) → rank xs (x + 1) ≡ rank xs x
+climbs-next xs x h none =
+    sym (bisect-climbs xs (x + 1) h)
+    ∙ bisect-ends xs (x + 1) (rank xs x)
+    (λ p l. omega (arith, climbs-below xs x h p l))
+    (λ p g l. let e : p ≡ rank xs x + (p - rank xs x) = omega arith in rw e (above (p - rank xs x) (omega arith)))
+    (rank-within xs x)
+  where
+    above : (k : ℕ) → rank xs x + k < length xs → x + 1 ≤ xs ! (rank xs x + k)
+    above zero l =
+        rw (add-zero (rank xs x))
+        (⊎-elim
+        (λ g. omega arith)
+        (λ g. absurd (none (omega arith) (omega (arith, climbs-above xs x h (rank xs x) (omega arith) (omega arith)))))
+        (lt-or-ge x (xs ! rank xs x)))
+    above (suc k) l = rw (add-suc (rank xs x) k) (omega (arith, above k (omega arith), h (rank xs x + k) (omega arith)))
 
 -- A list that rises never falls.
 rises-climbs : (xs : List ℕ) → Rises xs → Climbs xs

@@ -25,19 +25,19 @@ returns-3 : tie.Need-returns-3
 unfolding weakRowsOf allOf
 returns-3 c =
     let some : c .before .before .before .before .before .before .before .before .args .object < length (c .before .before .before .before .before .before .before .before .args .short .now) - 1 = omega arith in
-    rw (lt-ltb _ _ some, ← c .before .before .bisect-u32 .ensures, ← c .before .bisect-u322 .ensures) (simp (lt-leb _ _ (c .if3 .taken)))
+    rw (lt-ltb _ _ some, ← c .before .before .bisect-u32 .ensures, ← c .before .rows-end .ensures) (simp (lt-leb _ _ (c .if3 .taken)))
 
 returns-4 : tie.Need-returns-4
 unfolding weakRowsOf allOf
 returns-4 c =
     let some : c .before .before .before .before .before .before .before .before .before .args .object < length (c .before .before .before .before .before .before .before .before .before .args .short .now) - 1 = omega arith in
-    rw (lt-ltb _ _ some, ← c .before .before .before .bisect-u32 .ensures, ← c .before .before .bisect-u322 .ensures) (simp (le-leb _ _ (c .before .if3 .left), lt-leb _ _ (c .if4 .taken)))
+    rw (lt-ltb _ _ some, ← c .before .before .before .bisect-u32 .ensures, ← c .before .before .rows-end .ensures) (simp (le-leb _ _ (c .before .if3 .left), lt-leb _ _ (c .if4 .taken)))
 
 returns-5 : tie.Need-returns-5
 unfolding weakRowsOf allOf
 returns-5 c =
     let some : c .before .before .before .before .before .before .before .before .before .args .object < length (c .before .before .before .before .before .before .before .before .before .args .short .now) - 1 = omega arith in
-    rw (lt-ltb _ _ some, ← c .before .before .before .bisect-u32 .ensures, ← c .before .before .bisect-u322 .ensures) (simp (le-leb _ _ (c .before .if3 .left), le-leb _ _ (c .if4 .left)))
+    rw (lt-ltb _ _ some, ← c .before .before .before .bisect-u32 .ensures, ← c .before .before .rows-end .ensures) (simp (le-leb _ _ (c .before .if3 .left), le-leb _ _ (c .if4 .left)))
 
 pub weak-referents-spec : {M : Type 1} → statement M
 weak-referents-spec =
@@ -47,7 +47,6 @@ weak-referents-spec =
     (λ c. search needs)
     returns-2
     (λ c κs. search needs)
-    (λ c. search needs)
     (λ c κs. search needs)
     returns-3
     returns-4
