@@ -1,6 +1,6 @@
 -- On the columns of an accepted build, or of an accepted `from_parts`, each call's answer is the same question on the edges, and 12 is never given. Assumes nothing.
 use Prim.Native.Nat.{ℕ, _^_, _<_}
-use mathlib.Core.Path.{_≡_}
+use mathlib.Core.Path.{_≡_, sym, _∙_}
 use mathlib.Core.List.{List, _∷_}
 use lib.ListN.{length}
 use Rattle.rules.specs.Input.{Input, Schema, objectCount}
@@ -30,6 +30,13 @@ module _ (s : Schema) (p : Parts) (law : Meets (s .names) p) (few : length (p .l
   unfolding labelOf asked readsBack edgesRead
   label-kept t w = built (label-promised (strong (columnsOf s p)) o t w) (label-plain s p law few o t) (never-12 (objectsOf p) o _)
 
+  -- So whichever way a late label is read (`Labelled`), no caller can see it: two calls that meet the contract give the same answer.
+  pub exact-same-kept : (k : ℕ) {says other : List ℕ} → ExactAt (strong (columnsOf s p)) o k says → ExactAt (strong (columnsOf s p)) o k other → says ≡ other
+  exact-same-kept k w v = exact-kept k w ∙ sym (exact-kept k v)
+
+  pub label-same-kept : (t : ℕ) {says other : List ℕ} → LabelTo (strong (columnsOf s p)) o t says → LabelTo (strong (columnsOf s p)) o t other → says ≡ other
+  label-same-kept t w v = label-kept t w ∙ sym (label-kept t v)
+
 -- The columns of an accepted build: the same question on the object's edges, as the input gives them.
 module _ (x : Input) (h : Passed x) (o : ℕ) where
   pub coarse-built : (k : ℕ) → coarseAt (strong (columnsOf (x .schema) (graph x))) o k ≡ plainly (objectCount x) o (coarseIn (edgesOf x o) k)
@@ -43,3 +50,10 @@ module _ (x : Input) (h : Passed x) (o : ℕ) where
   pub label-built : (t : ℕ) {says : List ℕ} → LabelTo (strong (columnsOf (x .schema) (graph x))) o t says → says ≡ plainly (objectCount x) o (0 ∷ labelIn (edgesOf x o) t)
   unfolding labelOf asked readsBack edgesRead
   label-built t w = built (label-promised (strong (columnsOf (x .schema) (graph x))) o t w) (label-asked x h o t) (never-12 (objectCount x) o _)
+
+  -- the same here
+  pub exact-same : (k : ℕ) {says other : List ℕ} → ExactAt (strong (columnsOf (x .schema) (graph x))) o k says → ExactAt (strong (columnsOf (x .schema) (graph x))) o k other → says ≡ other
+  exact-same k w v = exact-built k w ∙ sym (exact-built k v)
+
+  pub label-same : (t : ℕ) {says other : List ℕ} → LabelTo (strong (columnsOf (x .schema) (graph x))) o t says → LabelTo (strong (columnsOf (x .schema) (graph x))) o t other → says ≡ other
+  label-same t w v = label-built t w ∙ sym (label-built t v)

@@ -14,7 +14,7 @@ use Rattle.columns.specs.Columns.{accepts}
 use Rattle.columns.proofs.Lists.{lt-or-ge, first-none}
 use Rattle.store.specs.Blocked.{Blocked}
 use Rattle.rules.specs.Edges.{Edge}
-use Rattle.rules.specs.Labels.{exactLabel}
+use Rattle.rules.specs.Labels.{Coded, exactLabel}
 use Rattle.rules.specs.Questions.{Columns, coarse, asked, labelAt, labelIn, labelsOf, readsBack, objectsIn, offsetAt, edgesIn, edgeAt, edgesRead, exactOf, coarseOf, labelOf, Promised}
 use Rattle.rules.proofs.Asked.{label-read}
 use Rattle.rules.proofs.Codes.{coarse-code}
@@ -22,7 +22,8 @@ use Rattle.labels.specs.Reading.{coarseBack, exactBack}
 use Rattle.labels.proofs.Back.{exact-back, coarse-back}
 use Rattle.ask_span.specs.Reading.{spanOf}
 use Rattle.ask_span.specs.Graph.{spanIn}
-use Rattle.ask_label.specs.Labelled.{edgeAsked, orColumns, labelled, coarseAt, goesTo, spanEdges, firstTo, Labelled, ExactAt, LabelTo}
+use Rattle.ask_late.proofs.Late.{late-forward, late-back}
+use Rattle.ask_label.specs.Labelled.{edgeAsked, orColumns, lateBack, labelled, coarseAt, goesTo, spanEdges, firstTo, Labelled, ExactAt, LabelTo}
 use Rattle.ask_span.proofs.Spans.{span-inside, asked-reads, span-read, span-none, span-columns}
 use Rattle.ask_span.proofs.FirstEdge.{first-edge}
 use Rattle.ask_span.proofs.Escapes.{escapes-rising, escapes-paired, edge-reads}
@@ -49,6 +50,9 @@ edge-coded c codes targets o k e = let h = held (spanOf c codes targets o) k e i
 module _ (c : Columns) (o : ℕ) (h : readsBack c o ≡ true) where
   pub exact-read : (k : ℕ) → k < edgesIn c o → exactBack (c .labels) (offsetAt c o) k ≡ exactLabel (c .labels) (offsetAt c o) k ∷ []
   exact-read k l = exact-back (c .labels) (escapes-rising c o h) (escapes-paired c o h) (offsetAt c o) k (λ j m. edge-reads c o h j (omega arith))
+
+  pub late-read : (k : ℕ) → k < edgesIn c o → lateBack (c .labels) (offsetAt c o) k ≡ exactLabel (c .labels) (offsetAt c o) k ∷ []
+  late-read k l = late-back (c .labels) (offsetAt c o) (escapes-rising c o h) (escapes-paired c o h) k (λ j m. edge-reads c o h j (omega arith))
 
   pub coarse-read : (k : ℕ) → k < edgesIn c o → coarseBack (c .labels) (offsetAt c o + k) ≡ coarse (exactLabel (c .labels) (offsetAt c o) k) ∷ []
   coarse-read k l =
@@ -154,7 +158,7 @@ module _ (c : Columns) (o k : ℕ) where
 number : (says : List ℕ) (p : ℕ) {values : List ℕ} → says ≡ values → eqb (says ! 0) p ≡ eqb (values ! 0) p
 number says p e = ap (λ (s : List ℕ). eqb (s ! 0) p) e
 
--- An edge that exists, by its label read forward and its label read from the nearest escape: reading forward is one way to meet the contract.
+-- An edge that exists, by its label read forward and its label read from the nearest escape: both ways meet the contract.
 module _ (o : ℕ) where
   two-numbers : (ls : List ℕ) → length (orColumns o ls) ≡ 2
   two-numbers [] = refl
@@ -162,6 +166,9 @@ module _ (o : ℕ) where
 
   forward-met : (forward late : List ℕ) {says : List ℕ} → says ≡ orColumns o forward → Labelled o forward late says
   forward-met forward late s = record { read = λ l ls e. s ∙ ap (orColumns o) e; unread = λ e. inl (s ∙ ap (orColumns o) e) }
+
+  late-met : (d : Coded) (e k : ℕ) {says : List ℕ} → says ≡ orColumns o (lateBack d e k) → Labelled o (exactBack d e k) (lateBack d e k) says
+  late-met d e k s = record { read = λ l ls q. s ∙ ap (orColumns o) (sym (late-forward d e k q) ∙ q); unread = λ q. inr s }
 
   -- whichever way: the forward answer where that is no COLUMNS; COLUMNS at the object only; never INDEX, and never nothing
   met-forward : (forward late : List ℕ) {says : List ℕ} → Labelled o forward late says → eqb (orColumns o forward ! 0) 12 ≡ false → says ≡ orColumns o forward
@@ -199,13 +206,13 @@ module _ (c : Columns) (o k : ℕ) where
   abbrev exactAt : List ℕ
   exactAt = labelled edge (exactFrom (spanIn c o ! 1)) o
 
-  pub exact-is : {a b : ℕ} {says ls : List ℕ} → edgeAsked (spanIn c o) k ≡ 0 ∷ a ∷ b ∷ [] → ls ≡ exactBack (c .labels) a k → says ≡ orColumns o ls → ExactAt c o k says
+  pub exact-is : {a b : ℕ} {says ls : List ℕ} → edgeAsked (spanIn c o) k ≡ 0 ∷ a ∷ b ∷ [] → ls ≡ lateBack (c .labels) a k → says ≡ orColumns o ls → ExactAt c o k says
   unfolding accepts
   exact-is {a} {b} {says} {ls} e r s =
       let start : spanIn c o ! 1 ≡ a = ap (λ (xs : List ℕ). xs ! 1) (held (spanIn c o) k e .0) in
       record {
         refused = λ f. absurd (false≢true (sym f ∙ ap accepts e));
-        exists = λ t. forward-met o _ _ (s ∙ ap (orColumns o) (r ∙ ap exactFrom (sym start)));
+        exists = λ t. late-met o (c .labels) (spanIn c o ! 1) k (s ∙ ap (orColumns o) (r ∙ ap (λ (e : ℕ). lateBack (c .labels) e k) (sym start)));
       }
 
   pub exact-refused : {says : List ℕ} → says ≡ edgeAsked (spanIn c o) k → accepts says ≡ false → ExactAt c o k says
@@ -311,10 +318,19 @@ module _ (c : Columns) (o t : ℕ) where
     pub nothing-to : b - a ≤ j → LabelTo c o t (0 ∷ [])
     nothing-to l = let z : 0 ∷ [] ≡ toward (spanIn c o) = sym (toward-from ∙ rw (le-ltb j (b - a) l)) in rw z toward-met
 
-    pub label-to : {says ls : List ℕ} → j < b - a → ls ≡ exactBack (c .labels) a j → says ≡ orColumns o ls → LabelTo c o t says
+    pub label-to : {says ls : List ℕ} → j < b - a → ls ≡ lateBack (c .labels) a j → says ≡ orColumns o ls → LabelTo c o t says
+    unfolding accepts
     label-to {says} {ls} l r s =
-        let z : says ≡ toward (spanIn c o) = s ∙ ap (orColumns o) r ∙ sym (toward-from ∙ rw (lt-ltb j (b - a) l)) in
-        rw z toward-met
+        let place : firstTo c o t ≡ j = ap (λ (s : List ℕ). first (s ! 1) (s ! 2 - s ! 1)) at-ab ∙ sym is in
+        let count : spanEdges c o ≡ b - a = ap (λ (s : List ℕ). s ! 2 - s ! 1) at-ab in
+        let start : spanIn c o ! 1 ≡ a = ap (λ (s : List ℕ). s ! 1) at-ab in
+        let same : lateBack (c .labels) a j ≡ lateBack (c .labels) (spanIn c o ! 1) (firstTo c o t) =
+        ap (λ (e : ℕ). lateBack (c .labels) e j) (sym start) ∙ ap (lateBack (c .labels) (spanIn c o ! 1)) (sym place) in
+        record {
+          refused = λ f. absurd (false≢true (sym f ∙ ap accepts at-ab));
+          nothing = λ x m. absurd (omega (arith, l, m, place, count));
+          exists = λ x m. late-met o (c .labels) (spanIn c o ! 1) (firstTo c o t) (s ∙ ap (orColumns o) (r ∙ same));
+        }
 
   pub refused-to : {says : List ℕ} → says ≡ spanIn c o → accepts says ≡ false → LabelTo c o t says
   refused-to {says} e f =

@@ -1,4 +1,3 @@
 pub mod Labels
-pub mod Late
 pub mod Built
 pub mod NoObject

@@ -1,19 +1,19 @@
 -- What the questions about the labels of edges answer, from the columns that they read. Assumes nothing.
-use Prim.Native.Nat.{ℕ, zero, suc, _+_, _-_, _≤_, _<_}
+use Prim.Native.Nat.{ℕ, _+_, _-_, _≤_, _<_}
 use mathlib.Core.Path.{_≡_}
 use mathlib.Core.Logic.{_⊎_}
 use mathlib.Core.Bool.{true, false, cond}
 use mathlib.Core.List.{List, [], _∷_}
-use lib.Dec.{eqb}
 use Rattle.columns.specs.Lists.{_!_, firstPlace}
 use Rattle.columns.specs.Columns.{accepts}
-use Rattle.rules.specs.Labels.{Coded}
 use Rattle.rules.specs.Questions.{Columns}
 use Rattle.labels.specs.Reading.{coarseBack, exactBack}
 use Rattle.ask_span.specs.Graph.{spanIn}
 -- whether there is such an edge, and whether it goes to a target; a label that was read, or COLUMNS
 pub use Rattle.ask_edge.specs.Edge.{orColumns, goesTo}
 unfoldable pub use Rattle.ask_edge.specs.Edge.{edgeAsked}
+-- the label of edge k, read from the nearest escaped element at or before it, or from the first edge
+unfoldable pub use Rattle.ask_late.specs.Late.{lateBack}
 
 -- the label of an edge, where there is such an edge
 unfoldable pub labelled : List ℕ → List ℕ → ℕ → List ℕ
@@ -23,18 +23,9 @@ labelled says label o = cond (accepts says) (orColumns o label) says
 unfoldable pub coarseAt : Columns → ℕ → ℕ → List ℕ
 coarseAt c o k = labelled (edgeAsked (spanIn c o) k) (coarseBack (c .labels) (spanIn c o ! 1 + k)) o
 
--- Of the object whose edges begin at e: the nearest escaped element at or before edge k, or the first edge; and the label of edge k, read from there. An
--- escape says its index by its row, so what stands before it need not be read.
-unfoldable pub nearest : Coded → ℕ → ℕ → ℕ
-nearest d e zero = 0
-nearest d e (suc k) = cond (eqb (d .codes ! (e + suc k)) 65535) (suc k) (nearest d e k)
-
-unfoldable pub lateBack : Coded → ℕ → ℕ → List ℕ
-lateBack d e k = exactBack d (e + nearest d e k) (k - nearest d e k)
-
 -- What is answered of an edge that exists, by its label read from the object's first edge and its label read from the nearest escape. Where the first way
--- gives a label, that label. Where it gives none, COLUMNS at the object, or what the second way gives. That is the only room: M-106 reads late labels from
--- the nearest escape, and no contract may change then. `late-met` says that the second way meets this contract.
+-- gives a label, that label. Where it gives none, COLUMNS at the object, or what the second way gives. That is the only room. Both ways meet this contract
+-- (`forward-met`, `late-met`); the calls go the second (M-106).
 pub record Labelled (o : ℕ) (forward late says : List ℕ) : Type 0 where
   pub read : (l : ℕ) (ls : List ℕ) → forward ≡ l ∷ ls → says ≡ 0 ∷ l ∷ []
   pub unread : forward ≡ [] → (says ≡ 12 ∷ o ∷ []) ⊎ (says ≡ orColumns o late)

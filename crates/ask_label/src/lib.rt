@@ -88,14 +88,7 @@ pub fn exact_label(
     let at = with_edge(whole, edge);
     match at {
         Span::Edges { start, end: _ } => {
-            let label = labels::read::exact(
-                edge_codes,
-                start,
-                edge,
-                fields,
-                escape_at,
-                escape_label,
-            );
+            let label = ask_late::exact(edge_codes, start, edge, fields, escape_at, escape_label);
             exact_answer(label, object)
         }
         Span::Index(i) => ExactLabel::Index(i),
@@ -137,14 +130,7 @@ pub fn label_of(
             if count <= edge {
                 return LabelOf::Nothing;
             }
-            let label = labels::read::exact(
-                edge_codes,
-                start,
-                edge,
-                fields,
-                escape_at,
-                escape_label,
-            );
+            let label = ask_late::exact(edge_codes, start, edge, fields, escape_at, escape_label);
             target_answer(label, object)
         }
         Span::Index(i) => LabelOf::Index(i),

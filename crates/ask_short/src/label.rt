@@ -37,14 +37,7 @@ pub fn label_of(
             if count <= edge {
                 return LabelOf::Nothing;
             }
-            let label = labels::read::exact(
-                edge_codes,
-                start,
-                edge,
-                fields,
-                &bases[..0],
-                &fields[..0],
-            );
+            let label = ask_late::exact(edge_codes, start, edge, fields, &bases[..0], &fields[..0]);
             ask_label::target_answer(label, object)
         }
         Span::Index(i) => LabelOf::Index(i),

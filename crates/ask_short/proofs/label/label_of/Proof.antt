@@ -4,6 +4,7 @@ use native.Mathlib.Omega.{arith}
 use Rattle.columns.specs.Columns.{accepts}
 use Rattle.rules.specs.Types.{spanSays}
 use Rattle.ask_span.proofs.Spans.{span-inside}
+use Rattle.ask_short.proofs.Plain.{late-plain}
 use Rattle.ask_short.proofs.Found.{nothing-found, label-found, refused-found}
 use borrow.Author.Needs.{needs}
 use Rattle.ask_short.proofs.label.label_of.Statement.{statement}
@@ -22,7 +23,9 @@ exact-requires : tie.Need-exact-requires
 exact-requires c κs = let i = span-inside _ _ _ _ (sym (c .before .before .before .before .before .before .before .span .ensures) ∙ ap spanSays (c .before .before .before .before .before .at .given .1)) in omega (arith, i .ordered, i .coded)
 
 returns-2 : tie.Need-returns-2
-returns-2 c = label-found _ _ _ (sym (c .before .before .before .before .before .before .before .before .before .span .ensures) ∙ ap spanSays (c .before .before .before .before .before .before .before .at .given .1)) (c .before .before .before .before .before .first-to .ensures) (c .before .before .before .before .if1 .left) (c .before .exact .ensures) (c .target-answer .ensures)
+returns-2 c =
+    label-found _ _ _ (sym (c .before .before .before .before .before .before .before .before .before .span .ensures) ∙ ap spanSays (c .before .before .before .before .before .before .before .at .given .1)) (c .before .before .before .before .before .first-to .ensures) (c .before .before .before .before .if1 .left)
+    (c .before .exact .ensures ∙ late-plain _ _ _ _) (c .target-answer .ensures)
 
 returns-3 : tie.Need-returns-3
 unfolding accepts

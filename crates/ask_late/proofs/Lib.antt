@@ -1,0 +1,3 @@
+pub mod Late
+pub mod Steps
+pub mod Worked
