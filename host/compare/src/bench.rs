@@ -29,7 +29,7 @@ fn cpu() -> f64 {
     time.seconds as f64 + time.nanoseconds as f64 * 1e-9
 }
 
-fn timed<T>(times: &mut Vec<f64>, work: impl FnOnce() -> T) -> T {
+pub fn timed<T>(times: &mut Vec<f64>, work: impl FnOnce() -> T) -> T {
     let start = cpu();
     let result = work();
     times.push(cpu() - start);
@@ -72,7 +72,7 @@ fn line(what: &str, ours: &mut [f64], theirs: &mut [f64], aim: Aim) {
 }
 
 /// The machine's processor, as Linux names it: on Arm by numbers, the implementer's and the part's.
-fn processor() -> String {
+pub fn processor() -> String {
     let told = std::fs::read_to_string("/proc/cpuinfo").unwrap_or_default();
     let value = |name: &str| told.lines().find_map(|line| line.strip_prefix(name)?.trim_start().strip_prefix(':').map(str::trim));
     let named = value("model name").map(String::from);
@@ -286,6 +286,8 @@ pub fn run(objects: u64) {
     for near in [false, true] {
         incoming(objects, near);
     }
+    println!();
+    crate::late::run();
     println!();
     dropin(objects);
 }

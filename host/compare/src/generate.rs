@@ -131,6 +131,11 @@ fn elements(random: &mut Random, shape: Shape, ids: &[u64], most: u64, first: bo
                 let gap = if random.chance(4) { random.below(5) } else { 32_765 + random.below(5) };
                 all.resize(all.len() + gap as usize, 0);
                 all.push(if random.chance(5) { 3 } else { random.pick(ids) });
+                // A label far behind an escape.
+                for _ in 0..if random.chance(3) { random.below(100) } else { 0 } {
+                    all.resize(all.len() + random.pick(&[0, 0, 0, 1, 7]), 0);
+                    all.push(random.pick(ids));
+                }
             }
             all
         }
@@ -326,12 +331,15 @@ pub fn parts(objects: usize, names: usize, random: &mut Random) -> OwnParts {
     let mut parts = OwnParts { offsets: vec![0], dangling: random.next(), ..OwnParts::default() };
     for _ in 0..objects {
         let mut next = 0u64;
-        for _ in 0..random.below(9) {
-            let label = match random.below(4) {
+        let most = if random.chance(16) { 150 } else { 9 };
+        let kinds = random.pick(&[4, 40]);
+        for _ in 0..random.below(most) {
+            let label = match random.below(kinds) {
                 0 if names > 0 => random.below(names.min(1 << 30) as u64) as u32,
                 1 => yokefathom::LOADER,
                 _ => {
-                    let index = next + random.pick(&[0, 0, 1, 5, 32_765, 32_766, 32_767, 32_768, 1 << 29]);
+                    let gap = random.pick(&[0, 0, 1, 5, 32_765, 32_766, 32_767, 32_768, 1 << 29]);
+                    let index = next + if most > 9 && !random.chance(30) { gap % 6 } else { gap };
                     if index >= 1 << 31 {
                         continue;
                     }

@@ -181,10 +181,10 @@ fn repeats() -> Case {
     case.copied(8)
 }
 
-/// An array with these numbers of nulls before its elements.
+/// An array with these numbers of nulls before its elements, which refer to the other object; behind them one that refers to the array itself.
 fn gaps(nulls: &[usize]) -> Case {
     let mut case = empty(0, 4);
-    let held: Vec<u64> = nulls.iter().flat_map(|&nulls| vec![0; nulls].into_iter().chain([16])).collect();
+    let held: Vec<u64> = nulls.iter().flat_map(|&nulls| vec![0; nulls].into_iter().chain([16])).chain([8]).collect();
     case.holds(8, 1, 0, &held);
     case.holds(16, 1, 0, &[0, 0, 8]);
     case.copied(8)
@@ -247,6 +247,7 @@ fn accepted() -> Vec<(String, Case)> {
         add(&format!("first gap {nulls}"), gaps(&[nulls]));
     }
     add("gaps 0, 32766 and 32767 in one array", gaps(&[0, 32_766, 32_767, 3]));
+    add("70 elements before an escape and 70 behind it", gaps(&[[1; 70].as_slice(), &[32_767], &[2; 70]].concat()));
     for names in [32_766, 32_767, 32_768] {
         add(&format!("{names} fields and the loader"), fields(names));
     }

@@ -11,6 +11,7 @@
 //!     compare dropin-bench OBJECTS   times of what these files compute over both, which `bench` prints too
 //!     compare list FOLDER            the fixed list for `crates/replay`, written behind what the folder's `stdin` and `stdout` have of their own
 //!     compare bench OBJECTS          times of both sides, and of inverting a graph against a plain sort of its edges
+//!     compare late                   times of the label of one edge of a long array, which `bench` prints too
 //!     compare growth                 times and peak memory of both sides at four sizes
 extern crate midden;
 
@@ -24,6 +25,7 @@ mod extremes;
 mod generate;
 mod handed;
 mod incoming;
+mod late;
 mod lent;
 mod list;
 mod memory;
@@ -132,13 +134,14 @@ fn main() {
         (["list", folder], ..) => return list::write(std::path::Path::new(folder)).expect("the folder can be written to"),
         (["bench", _], Some(objects), None) => return bench::run(objects),
         (["dropin-bench", _], Some(objects), None) => return bench::dropin(objects),
+        (["late"], ..) => return late::run(),
         (["growth"], ..) => return bench::growth(),
         // What `dropin` and `growth` start for themselves.
         (["dropin-cache"], ..) => return dropin::cache(),
         (["peak", side, route, objects], ..) => return memory::run(side, route, objects.parse().expect("a number")),
         _ => {
             eprintln!(
-                "compare random FIRST COUNT | graphs COUNT [FIRST] | small | limits | seconds N | dump FILE | dropin COUNT [FIRST] | dropin-dump FILE | dropin-bench OBJECTS | list FOLDER | bench OBJECTS | growth"
+                "compare random FIRST COUNT | graphs COUNT [FIRST] | small | limits | seconds N | dump FILE | dropin COUNT [FIRST] | dropin-dump FILE | dropin-bench OBJECTS | list FOLDER | bench OBJECTS | late | growth"
             );
             std::process::exit(2);
         }
