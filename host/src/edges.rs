@@ -65,7 +65,7 @@ impl<'a> Edges<'a> {
         value(&answer).map(|label| label as u32)
     }
 
-    /// Edge `k`'s label; an element's index adds up the gaps before it.
+    /// Edge `k`'s label. An element's index adds up the gaps back to the nearest one whose index is kept whole, or to the first edge.
     #[inline]
     pub fn exact(&self, k: usize) -> Result<u32, Refusal> {
         let Columns { bases, short, long_at, long_value, codes, targets, fields, escape_at, escape_label, .. } = self.graph.columns();
