@@ -1,5 +1,5 @@
 // The exact label of an edge far behind the object's first (M-106): only the codes back to the nearest escaped element are read. Their gaps are added on the
-// way back, so that coming forward again is one addition and each code is read once.
+// way back, so that coming forward again is one addition.
 use labels::EdgeLabel;
 use labels::code::ELEMENT;
 use labels::read::read_code;
