@@ -1,6 +1,6 @@
 // The single question by an object's codes, compared with the label's own.
 ghost use Rattle.std.specs.Prelude.{◌≡◌, true, length};
-ghost use Rattle.columns.specs.Loans.{entry};
+ghost use Rattle.columns.specs.Loans.{now_of};
 ghost use Rattle.columns.specs.Columns.{accepts};
 ghost use Rattle.rules.specs.Types.{field_says};
 ghost use Rattle.ask_field.specs.Sought.{field_found};
@@ -26,7 +26,7 @@ pub(crate) fn by_codes(
 ) -> Field
     requires sole { Sole fields.now label sole.code sole.most }
     requires few_told { FewTold (short_of bases.now short.now) (length edge_codes.now) (length targets.now) object start count }
-    ensures { accepts (field_says result) ≡ true → field_says result ≡ field_found (lean_edges entry bases short edge_codes targets fields) object label }
+    ensures { accepts (field_says result) ≡ true → field_says result ≡ field_found (lean_edges now_of bases short edge_codes targets fields) object label }
 {
     if 255 <= count {
         return Field::Columns(object);

@@ -1,10 +1,11 @@
 // A field of each object of a list, into two lent columns. First the spans of all objects are read, then their codes: so the reads of one object do not wait for
 // those of another. Codes are compared with the label's own, where there is one; whatever leaves a doubt is asked as a single question.
 // The code of a label, the spans and the rows are found, told and written in crates of their own.
+#![tactic(auto)]
 mod codes;
 
 ghost use Rattle.std.specs.Prelude.{◌≡◌, ◌≤◌, length};
-ghost use Rattle.columns.specs.Loans.{entry, exit};
+ghost use Rattle.columns.specs.Loans.{now_of};
 ghost use Rattle.rules.specs.Types.{each_field_says};
 ghost use Rattle.rules.specs.Each.{each_left};
 ghost use Rattle.ask_span.specs.Graph.{edge_columns};
@@ -36,8 +37,8 @@ fn run(
     requires sole { Sole fields.now label sole.code sole.most }
     requires fact { let graph = edge_columns (λ x. x.now) bases short long_at long_value edge_codes targets fields escape_at escape_label in
         Asking graph label objects.now own_targets.old found.old from }
-    ensures { let graph = edge_columns entry bases short long_at long_value edge_codes targets fields escape_at escape_label in
-        Onward graph label (entry objects) from (entry own_targets) (entry found) (exit own_targets) (exit found) result }
+    ensures { let graph = edge_columns now_of bases short long_at long_value edge_codes targets fields escape_at escape_label in
+        Onward graph label objects.now from own_targets.old found.old own_targets.new found.new result }
 {
     let mut i = from;
     while i < objects.len() {
@@ -77,8 +78,8 @@ fn ask(
     requires objects_in_bounds { (length objects.now ≤ length own_targets.old) × (length objects.now ≤ length found.old) }
     requires sole { Sole fields.now label sole.code sole.most }
     requires told { Told (short_of bases.now short.now) (length edge_codes.now) (length targets.now) objects.now own_targets.old found.old 0 (length objects.now) }
-    ensures { let graph = edge_columns entry bases short long_at long_value edge_codes targets fields escape_at escape_label in
-        Asked (asks graph label) (entry objects) (each_field_says result) (entry own_targets) (entry found) (exit own_targets) (exit found) }
+    ensures { let graph = edge_columns now_of bases short long_at long_value edge_codes targets fields escape_at escape_label in
+        Asked (asks graph label) objects.now (each_field_says result) own_targets.old found.old own_targets.new found.new }
 {
     let mut i = 0;
     while i < objects.len() {
@@ -144,8 +145,8 @@ pub fn field(
     own_targets: &mut [u32],
     found: &mut [u8],
 ) -> EachField
-    ensures { let graph = edge_columns entry bases short long_at long_value edge_codes targets fields escape_at escape_label in
-        left_each (each_field_says result) (exit own_targets) (exit found) ≡ each_left (asks graph label) (entry objects) (length (entry own_targets)) (length (entry found)) }
+    ensures { let graph = edge_columns now_of bases short long_at long_value edge_codes targets fields escape_at escape_label in
+        left_each (each_field_says result) own_targets.new found.new ≡ each_left (asks graph label) objects.now (length own_targets.old) (length found.old) }
 {
     let lacks = ask_each_rows::lacks_room(objects.len(), own_targets.len(), found.len());
     if lacks {

@@ -1,6 +1,6 @@
 // The code that alone says a label, and the first of an object's edges that has it. `ask_each` asks a list by these.
+#![tactic(auto)]
 ghost use Rattle.std.specs.Prelude.{◌+◌, ◌<◌, ◌≤◌, length};
-ghost use Rattle.columns.specs.Loans.{entry};
 ghost use Rattle.rules.specs.Types.{array_element_label};
 ghost use Rattle.ask_field.specs.Sought.{decoded, sought_in};
 ghost use Rattle.ask_short.specs.Lean.{plain_of};
@@ -20,7 +20,7 @@ pub struct SoleCode {
 
 // The label's code, by one look at each field. Where two fields have the label, one has an element's, or few objects are asked, no code is trusted.
 pub fn sole(fields: &[u32], label: u32, asked: usize) -> SoleCode
-    ensures { Sole (entry fields) label result.code result.most }
+    ensures { Sole fields.now label result.code result.most }
 {
     if asked < fields.len() / 16 {
         return SoleCode {
@@ -67,7 +67,7 @@ fn first_code(
 ) -> Sought
     requires count_in_bounds { (start + count ≤ length edge_codes.now) × (label < array_element_label) }
     requires sole { Sole fields.now label sole.code sole.most }
-    ensures { Quick result (decoded (plain_of (entry edge_codes) (entry fields)) start count label) }
+    ensures { Quick result (decoded (plain_of edge_codes.now fields.now) start count label) }
 {
     let asked = sole.code;
     let odd = sole.most + ELEMENT;
@@ -97,7 +97,7 @@ pub fn seek(
 ) -> Sought
     requires count_in_bounds { start + count ≤ length edge_codes.now }
     requires sole { Sole fields.now label sole.code sole.most }
-    ensures { Quick result (sought_in (plain_of (entry edge_codes) (entry fields)) start count label) }
+    ensures { Quick result (sought_in (plain_of edge_codes.now fields.now) start count label) }
 {
     if label == Label::ARRAY_ELEMENT {
         return ask_field::first_element(edge_codes, start, count);

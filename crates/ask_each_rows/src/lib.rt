@@ -1,6 +1,6 @@
 // The steps of asking a list that read no object: whether there is room, one row, a refusal with its position, the end. `ask_each` asks a list by these.
+#![tactic(auto)]
 ghost use Rattle.std.specs.Prelude.{◌≡◌, ◌<◌, length};
-ghost use Rattle.columns.specs.Loans.{entry, exit};
 ghost use Rattle.columns.specs.Columns.{kept};
 ghost use Rattle.rules.specs.Types.{field_says, each_field_says};
 ghost use Rattle.ask_each_rows.specs.Rows.{lacking, Row, at_position, EachSettled};
@@ -23,7 +23,7 @@ pub fn lacks_room(asked: usize, targets: usize, marks: usize) -> bool
 // Writes the row of an answer: its target and the mark 1, or 0 and 0 where nothing is found. A refusal writes nothing, and is told.
 pub fn row(answer: Field, at: usize, own_targets: &mut [u32], found: &mut [u8]) -> bool
     requires { (at < length own_targets.old) × (at < length found.old) }
-    ensures { Row (field_says answer) at (entry own_targets) (entry found) result (exit own_targets) (exit found) }
+    ensures { Row (field_says answer) at own_targets.old found.old result own_targets.new found.new }
 {
     match answer {
         Field::Target(t) => {
@@ -66,7 +66,7 @@ fn each_kept(answer: EachField) -> usize
 
 // Clears the ends behind the answers that are kept, which is all after a refusal.
 pub fn settle(answer: EachField, own_targets: &mut [u32], found: &mut [u8]) -> EachField
-    ensures { EachSettled (each_field_says answer) (each_field_says result) (entry own_targets) (entry found) (exit own_targets) (exit found) }
+    ensures { EachSettled (each_field_says answer) (each_field_says result) own_targets.old found.old own_targets.new found.new }
 {
     let end = each_kept(answer);
     columns::zero_u32(own_targets, end);

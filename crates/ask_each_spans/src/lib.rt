@@ -1,6 +1,6 @@
 // The spans of a list of objects, by the short columns. Each is told by a few tests, so that many reads are on their way at once.
+#![tactic(auto)]
 ghost use Rattle.std.specs.Prelude.{◌<◌, ◌≤◌, length};
-ghost use Rattle.columns.specs.Loans.{entry, exit};
 ghost use Rattle.ask_short.specs.Lean.{short_of};
 ghost use Rattle.ask_each_spans.specs.Told.{Based, Few, Told, Telling};
 
@@ -8,7 +8,7 @@ use std::num::wrapping_sub_u32;
 
 // How many offsets have a base: all, or none is trusted.
 fn based(bases: &[u64], short: &[u16]) -> usize
-    ensures { Based (length (entry bases)) (length (entry short)) result }
+    ensures { Based (length bases.now) (length short.now) result }
 {
     if short.len() == 0 {
         return 0;
@@ -39,7 +39,7 @@ pub fn limit(codes: usize, targets: usize) -> u64
 // How many edges an object has, where both its offsets are short and of one block, and these are few and end by the limit; else 255.
 fn few(bases: &[u64], short: &[u16], known: usize, limit: u64, object: u32) -> u8
     requires { Based (length bases.now) (length short.now) known × (limit < 4294967296) }
-    ensures { result < 255 → Few (entry bases) (entry short) limit object result }
+    ensures { result < 255 → Few bases.now short.now limit object result }
 {
     let at = object as usize;
     let next = at + 1;
@@ -81,8 +81,8 @@ fn tell(
     requires objects_in_bounds { (length objects.now ≤ length own_targets.old) × (length objects.now ≤ length found.old) × (from ≤ length objects.now) }
     requires based { Based (length bases.now) (length short.now) known × (limit < 4294967296) }
     requires told { Told (short_of bases.now short.now) limit limit objects.now own_targets.old found.old 0 from }
-    ensures { Telling (short_of (entry bases) (entry short)) limit limit (entry objects) from
-        (entry own_targets) (entry found) (exit own_targets) (exit found) result }
+    ensures { Telling (short_of bases.now short.now) limit limit objects.now from
+        own_targets.old found.old own_targets.new found.new result }
 {
     let mut i = from;
     while i < objects.len() {
@@ -109,8 +109,8 @@ pub fn spans(
     found: &mut [u8],
 )
     requires { (length objects.now ≤ length own_targets.old) × (length objects.now ≤ length found.old) × (limit < 4294967296) }
-    ensures { Telling (short_of (entry bases) (entry short)) limit limit (entry objects) 0
-        (entry own_targets) (entry found) (exit own_targets) (exit found) (length (entry objects)) }
+    ensures { Telling (short_of bases.now short.now) limit limit objects.now 0
+        own_targets.old found.old own_targets.new found.new (length objects.now) }
 {
     let known = based(bases, short);
     let mut i = 0;

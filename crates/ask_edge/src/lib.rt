@@ -1,6 +1,6 @@
 // One edge of an object: whether there is such an edge, the first one to a target, and a label that was read as an answer. `ask_label` asks with these.
+#![tactic(auto)]
 ghost use Rattle.std.specs.Prelude.{◌≡◌, ◌+◌, ◌≤◌, length};
-ghost use Rattle.columns.specs.Loans.{entry};
 ghost use Rattle.columns.specs.Lists.{first_place};
 ghost use Rattle.rules.specs.Types.{span_says, coarse_says, exact_says, label_of_says};
 ghost use Rattle.labels.specs.Reading.{read_says};
@@ -58,7 +58,7 @@ pub fn target_answer(label: EdgeLabel, object: usize) -> LabelOf
 // The first of an object's edges that goes to a target; their number where none does.
 pub fn first_to(targets: &[u32], start: usize, count: usize, target: u32) -> usize
     requires { start + count ≤ length targets.now }
-    ensures { result ≡ first_place (goes_to (entry targets) start target) count }
+    ensures { result ≡ first_place (goes_to targets.now start target) count }
 {
     let mut k = 0;
     while k < count {

@@ -1,6 +1,6 @@
 // All edges of an object at once. The caller lends two columns and keeps no state between calls, so there is none to get wrong.
 ghost use Rattle.std.specs.Prelude.{◌≡◌, ◌-◌, ◌≤◌, length};
-ghost use Rattle.columns.specs.Loans.{entry, exit};
+ghost use Rattle.columns.specs.Loans.{now_of};
 ghost use Rattle.rules.specs.Types.{object_edges_says};
 ghost use Rattle.labels.specs.Reading.{coded_of};
 ghost use Rattle.ask_span.specs.Graph.{edge_columns};
@@ -26,8 +26,8 @@ fn read_edges(
 ) -> usize
     requires start_le_end { (start ≤ end) × (end ≤ length edge_codes.now) × (end ≤ length targets.now) }
     requires room_in_bounds { (room ≤ length own_targets.old) × (room ≤ length own_labels.old) }
-    ensures { OwnRead objects (entry targets) (coded_of (entry edge_codes) (entry fields) (entry escape_at) (entry escape_label)) start (end - start) room result
-        (entry own_targets) (entry own_labels) (exit own_targets) (exit own_labels) }
+    ensures { OwnRead objects targets.now (coded_of edge_codes.now fields.now escape_at.now escape_label.now) start (end - start) room result
+        own_targets.old own_labels.old own_targets.new own_labels.new }
 {
     let part = &targets[start..end];
     let codes = &edge_codes[start..end];
@@ -80,8 +80,8 @@ pub fn object_edges(
     own_targets: &mut [u32],
     own_labels: &mut [u32],
 ) -> ObjectEdges
-    ensures { let graph = edge_columns entry bases short long_at long_value edge_codes targets fields escape_at escape_label in
-        left_edges (object_edges_says result) (exit own_targets) (exit own_labels) ≡ edges_found graph object (length (entry own_targets)) (length (entry own_labels)) }
+    ensures { let graph = edge_columns now_of bases short long_at long_value edge_codes targets fields escape_at escape_label in
+        left_edges (object_edges_says result) own_targets.new own_labels.new ≡ edges_found graph object (length own_targets.old) (length own_labels.old) }
 {
     let at = ask_span::span(
         bases, short, long_at, long_value, edge_codes, targets, object,

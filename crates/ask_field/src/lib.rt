@@ -1,6 +1,7 @@
 // The target of an object's field, and of its weak reference where it has no such field.
+#![tactic(auto)]
 ghost use Rattle.std.specs.Prelude.{◌≡◌, [], ◌+◌, ◌<◌, ◌≤◌, length};
-ghost use Rattle.columns.specs.Loans.{entry};
+ghost use Rattle.columns.specs.Loans.{now_of};
 ghost use Rattle.columns.specs.Lists.{◌!◌};
 ghost use Rattle.rules.specs.Types.{array_element_label, field_says, referent_says};
 ghost use Rattle.labels.specs.Reading.{coded_of};
@@ -22,7 +23,7 @@ pub enum Sought {
 
 pub fn first_element(edge_codes: &[u16], start: usize, count: usize) -> Sought
     requires { start + count ≤ length edge_codes.now }
-    ensures { result ≡ first_sought (element_at (coded_of (entry edge_codes) [] [] []) start) count }
+    ensures { result ≡ first_sought (element_at (coded_of edge_codes.now [] [] []) start) count }
 {
     let mut k = 0;
     while k < count {
@@ -37,7 +38,7 @@ pub fn first_element(edge_codes: &[u16], start: usize, count: usize) -> Sought
 
 // How many codes say a field by themselves: those of the fields, below the escape.
 pub fn plain_codes(fields: &[u32]) -> u16
-    ensures { (result ≤ length (entry fields)) × (result ≤ 32767) × (result < length (entry fields) → result ≡ 32767) }
+    ensures { (result ≤ length fields.now) × (result ≤ 32767) × (result < length fields.now → result ≡ 32767) }
 {
     if fields.len() < ESCAPED as usize {
         return fields.len() as u16;
@@ -56,7 +57,7 @@ fn first_label(
     label: u32,
 ) -> Sought
     requires { (start + count ≤ length edge_codes.now) × (label < array_element_label) }
-    ensures { result ≡ decoded (coded_of (entry edge_codes) (entry fields) (entry escape_at) (entry escape_label)) start count label }
+    ensures { result ≡ decoded (coded_of edge_codes.now fields.now escape_at.now escape_label.now) start count label }
 {
     let most = plain_codes(fields);
     let mut k = 0;
@@ -103,7 +104,7 @@ fn seek(
     label: u32,
 ) -> Sought
     requires { start + count ≤ length edge_codes.now }
-    ensures { result ≡ sought_in (coded_of (entry edge_codes) (entry fields) (entry escape_at) (entry escape_label)) start count label }
+    ensures { result ≡ sought_in (coded_of edge_codes.now fields.now escape_at.now escape_label.now) start count label }
 {
     if label == Label::ARRAY_ELEMENT {
         return first_element(edge_codes, start, count);
@@ -124,7 +125,7 @@ fn seek(
 
 pub fn target_at(targets: &[u32], edge: usize) -> u32
     requires { edge < length targets.now }
-    ensures { result ≡ entry targets ! edge }
+    ensures { result ≡ targets.now ! edge }
 {
     targets[edge]
 }
@@ -143,7 +144,7 @@ pub fn field(
     object: usize,
     label: u32,
 ) -> Field
-    ensures { let graph = edge_columns entry bases short long_at long_value edge_codes targets fields escape_at escape_label in
+    ensures { let graph = edge_columns now_of bases short long_at long_value edge_codes targets fields escape_at escape_label in
         field_says result ≡ field_found graph object label }
 {
     let at = ask_span::span(
@@ -173,7 +174,7 @@ pub fn field(
 
 // The first of an object's weak targets: pairs are sorted, so that it is the smallest.
 pub fn first_weak(short: &[u16], weak_from: &[u32], weak_to: &[u32], object: usize) -> Referent
-    ensures { referent_says result ≡ first_weak (weak_rows_of (length (entry short)) (entry weak_from) (entry weak_to) object) (entry weak_to) }
+    ensures { referent_says result ≡ first_weak (weak_rows_of (length short.now) weak_from.now weak_to.now object) weak_to.now }
 {
     let at = ask_span::weak_referents(short, weak_from, weak_to, object);
     match at {
@@ -204,7 +205,7 @@ pub fn referent(
     object: usize,
     label: u32,
 ) -> Referent
-    ensures { let graph = graph_columns entry bases short long_at long_value edge_codes targets fields escape_at escape_label weak_from weak_to in
+    ensures { let graph = graph_columns now_of bases short long_at long_value edge_codes targets fields escape_at escape_label weak_from weak_to in
         referent_says result ≡ referent_found graph object label }
 {
     let held = field(

@@ -1,6 +1,7 @@
 // The labels of an object's edges: coarse and exact by the edge's number, and exact by its target.
+#![tactic(auto)]
 ghost use Rattle.std.specs.Prelude.{◌≡◌};
-ghost use Rattle.columns.specs.Loans.{entry};
+ghost use Rattle.columns.specs.Loans.{now_of};
 ghost use Rattle.rules.specs.Types.{coarse_says, exact_says, label_of_says};
 ghost use Rattle.ask_span.specs.Graph.{edge_columns};
 ghost use Rattle.ask_label.specs.Labelled.{coarse_at, ExactAt, LabelTo};
@@ -23,7 +24,7 @@ pub fn coarse_label(
     object: usize,
     edge: usize,
 ) -> CoarseLabel
-    ensures { let graph = edge_columns entry bases short long_at long_value edge_codes targets fields escape_at escape_label in
+    ensures { let graph = edge_columns now_of bases short long_at long_value edge_codes targets fields escape_at escape_label in
         coarse_says result ≡ coarse_at graph object edge }
 {
     let whole = ask_span::span(
@@ -60,7 +61,7 @@ pub fn exact_label(
     object: usize,
     edge: usize,
 ) -> ExactLabel
-    ensures { let graph = edge_columns entry bases short long_at long_value edge_codes targets fields escape_at escape_label in
+    ensures { let graph = edge_columns now_of bases short long_at long_value edge_codes targets fields escape_at escape_label in
         ExactAt graph object edge (exact_says result) }
 {
     let whole = ask_span::span(
@@ -91,7 +92,7 @@ pub fn label_of(
     object: usize,
     target: u32,
 ) -> LabelOf
-    ensures { let graph = edge_columns entry bases short long_at long_value edge_codes targets fields escape_at escape_label in
+    ensures { let graph = edge_columns now_of bases short long_at long_value edge_codes targets fields escape_at escape_label in
         LabelTo graph object target (label_of_says result) }
 {
     let at = ask_span::span(

@@ -1,7 +1,7 @@
 // The exact label of an edge far behind the object's first (M-106): only the codes back to the nearest escaped element are read. Their gaps are added on the
 // way back, so that coming forward again is one addition.
+#![tactic(auto)]
 ghost use Rattle.std.specs.Prelude.{◌≡◌, ◌+◌, ◌≤◌, ◌<◌, length};
-ghost use Rattle.columns.specs.Loans.{entry};
 ghost use Rattle.labels.specs.Reading.{read_says, coded_of, code_back, element_back, next_of};
 ghost use Rattle.ask_late.specs.Late.{late_back, late_next, after_steps, steps_of, block_steps};
 
@@ -35,7 +35,7 @@ fn steps_of(code: u16) -> u32
 // The steps of a block. All its codes are looked at, without an early exit: so the pass takes many at once.
 fn block_steps(edge_codes: &[u16], from: usize) -> u32
     requires { from + 32 ≤ length edge_codes.now }
-    ensures { result ≡ block_steps (entry edge_codes) from }
+    ensures { result ≡ block_steps edge_codes.now from }
 {
     let mut sum = 0;
     let mut i = 0;
@@ -66,7 +66,7 @@ fn behind_escape(
     escape_label: &[u32],
 ) -> EdgeLabel
     requires { steps ≤ 2147483648 }
-    ensures { read_says result ≡ after_steps steps (next_of 0 (code_back (entry fields) (entry escape_at) (entry escape_label) edge 0 65535)) }
+    ensures { read_says result ≡ after_steps steps (next_of 0 (code_back fields.now escape_at.now escape_label.now edge 0 65535)) }
 {
     match read_code(ESCAPED_ELEMENT, edge, 0, fields, escape_at, escape_label) {
         EdgeLabel::Is(label) => element(label - Label::ARRAY_ELEMENT + steps),
@@ -86,7 +86,7 @@ fn back(
     escape_label: &[u32],
 ) -> EdgeLabel
     requires { (start + k ≤ length edge_codes.now) × ((1 ≤ first) × (first ≤ 2147483648)) }
-    ensures { let codes = coded_of (entry edge_codes) (entry fields) (entry escape_at) (entry escape_label) in
+    ensures { let codes = coded_of edge_codes.now fields.now escape_at.now escape_label.now in
         read_says result ≡ after_steps first (late_next codes start k) }
 {
     let mut steps = first;
@@ -129,7 +129,7 @@ fn back_by_blocks(
     escape_label: &[u32],
 ) -> EdgeLabel
     requires { (start + k ≤ length edge_codes.now) × ((1 ≤ first) × (first ≤ 2147483648)) }
-    ensures { let codes = coded_of (entry edge_codes) (entry fields) (entry escape_at) (entry escape_label) in
+    ensures { let codes = coded_of edge_codes.now fields.now escape_at.now escape_label.now in
         read_says result ≡ after_steps first (late_next codes start k) }
 {
     let mut steps = first;
@@ -174,7 +174,7 @@ pub fn exact(
     escape_label: &[u32],
 ) -> EdgeLabel
     requires { start + k < length edge_codes.now }
-    ensures { read_says result ≡ late_back (coded_of (entry edge_codes) (entry fields) (entry escape_at) (entry escape_label)) start k }
+    ensures { read_says result ≡ late_back (coded_of edge_codes.now fields.now escape_at.now escape_label.now) start k }
 {
     let edge = start + k;
     let code = edge_codes[edge];

@@ -1,9 +1,9 @@
 // One object's edges, one at a time: a reader that holds the object's parts of the targets and of the codes and a position. The struct and the functions over it
 // are thin, and leave the work to functions on slices and numbers. `ask_edges` passes the reader on, and has all edges at once.
+#![tactic(auto)]
 pub mod own;
 
 ghost use Rattle.std.specs.Prelude.{◌≡◌};
-ghost use Rattle.columns.specs.Loans.{entry};
 ghost use Rattle.labels.specs.Reading.{read_says};
 ghost use Rattle.ask_reader.specs.Read.{step_at, read_edge_says, with_label, edge_back};
 
@@ -33,7 +33,7 @@ pub enum ReadEdge {
 
 // The work: what stands at a position of the two parts.
 pub fn step_at<'a, 'b>(targets: &'a [u32], codes: &'b [u16], at: usize) -> Step
-    ensures { result ≡ step_at (entry targets) (entry codes) at }
+    ensures { result ≡ step_at targets.now codes.now at }
 {
     if targets.len() <= at {
         return Step::End;
@@ -61,7 +61,7 @@ pub fn next<'a, 'b>(e: Edges<'a, 'b>) -> Step
 
 // A function with plain parameters above them: whoever calls it needs no struct.
 pub fn read<'a, 'b>(targets: &'a [u32], codes: &'b [u16], at: usize) -> Step
-    ensures { result ≡ step_at (entry targets) (entry codes) at }
+    ensures { result ≡ step_at targets.now codes.now at }
 {
     next(new(targets, codes, at))
 }
@@ -79,7 +79,7 @@ pub fn edge_at(
     objects: usize,
 ) -> ReadEdge
     ensures { read_edge_says result ≡
-        edge_back objects (entry fields) (entry escape_at) (entry escape_label) place expected (step_at (entry targets) (entry codes) at) }
+        edge_back objects fields.now escape_at.now escape_label.now place expected (step_at targets.now codes.now at) }
 {
     let stands = read(targets, codes, at);
     match stands {

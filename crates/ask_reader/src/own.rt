@@ -1,6 +1,5 @@
 // The steps of answering all edges of an object that read none: the room, the answer, the end.
 ghost use Rattle.std.specs.Prelude.{◌≡◌};
-ghost use Rattle.columns.specs.Loans.{entry, exit};
 ghost use Rattle.columns.specs.Columns.{kept};
 ghost use Rattle.rules.specs.Types.{object_edges_says};
 ghost use Rattle.ask_reader.specs.Own.{own_room, own_says, OwnSettled};
@@ -46,7 +45,7 @@ pub fn edges_kept(answer: ObjectEdges) -> usize
 
 // Clears the ends behind the edges that the answer keeps, which is all after a refusal.
 pub fn settle(answer: ObjectEdges, own_targets: &mut [u32], own_labels: &mut [u32]) -> ObjectEdges
-    ensures { OwnSettled (object_edges_says answer) (object_edges_says result) (entry own_targets) (entry own_labels) (exit own_targets) (exit own_labels) }
+    ensures { OwnSettled (object_edges_says answer) (object_edges_says result) own_targets.old own_labels.old own_targets.new own_labels.new }
 {
     let end = edges_kept(answer);
     columns::zero_u32(own_targets, end);

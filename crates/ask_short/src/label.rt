@@ -1,6 +1,6 @@
 // Labels without the escapes: a code says its label by the fields, or by the gap and what is expected.
 ghost use Rattle.std.specs.Prelude.{◌≡◌};
-ghost use Rattle.columns.specs.Loans.{entry};
+ghost use Rattle.columns.specs.Loans.{now_of};
 ghost use Rattle.rules.specs.Types.{label_of_says};
 ghost use Rattle.labels.specs.Reading.{read_says};
 ghost use Rattle.ask_short.specs.Lean.{plain_back, lean_edges, label_found};
@@ -11,7 +11,7 @@ use rules::{LabelOf, Span};
 
 // The label of a code that is not escaped, where an element would have the index `next` at least.
 pub fn read_code(code: u16, next: u32, fields: &[u32]) -> EdgeLabel
-    ensures { read_says result ≡ plain_back (entry fields) next code }
+    ensures { read_says result ≡ plain_back fields.now next code }
 {
     let none: [u64; 0] = [0; 0];
     labels::read::read_code(code, 0, next, fields, &none, &fields[..0])
@@ -27,7 +27,7 @@ pub fn label_of(
     object: usize,
     target: u32,
 ) -> LabelOf
-    ensures { label_of_says result ≡ label_found (lean_edges entry bases short edge_codes targets fields) object target }
+    ensures { label_of_says result ≡ label_found (lean_edges now_of bases short edge_codes targets fields) object target }
 {
     let at = span(bases, short, edge_codes.len(), targets.len(), object);
     match at {

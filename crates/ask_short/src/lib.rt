@@ -1,10 +1,10 @@
 // The questions by the short columns alone, without the long offsets and the escapes, which few objects need. Where the answer is no refusal it is the
 // whole question's; a refusal says only that the whole question is to be asked. So a host that asks here first lends few columns.
 // `ask_short_field` has the questions for a field.
+#![tactic(auto)]
 pub mod label;
 
 ghost use Rattle.std.specs.Prelude.{◌≡◌};
-ghost use Rattle.columns.specs.Loans.{entry};
 ghost use Rattle.store.specs.Blocked.{offset_says, read_back};
 ghost use Rattle.rules.specs.Types.{span_says};
 ghost use Rattle.ask_span.specs.Reading.{span_of};
@@ -16,7 +16,7 @@ use store::Offset;
 // The offset at i, where it is short. A long one cannot be read here. No search is named, not even one of an empty column: so this is small enough to be
 // compiled into each question.
 fn offset(bases: &[u64], short: &[u16], i: usize) -> Offset
-    ensures { offset_says result ≡ read_back (short_of (entry bases) (entry short)) i }
+    ensures { offset_says result ≡ read_back (short_of bases.now short.now) i }
 {
     if short.len() <= i {
         return Offset::Index(i);
@@ -30,7 +30,7 @@ fn offset(bases: &[u64], short: &[u16], i: usize) -> Offset
 
 // Where the edges of an object sit, where both its offsets are short and it ends within codes and targets.
 pub fn span(bases: &[u64], short: &[u16], codes: usize, targets: usize, object: usize) -> Span
-    ensures { span_says result ≡ span_of (short_of (entry bases) (entry short)) codes targets object }
+    ensures { span_says result ≡ span_of (short_of bases.now short.now) codes targets object }
 {
     if short.len() <= object {
         return Span::Index(object);

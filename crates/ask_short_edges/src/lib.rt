@@ -1,8 +1,9 @@
 // All edges of an object by the short columns alone, without the long offsets and the escapes, which few objects need. The answer is one number: 0 says only
 // that the whole question is to be asked (`ask_edges`). So a host that asks here first lends few columns.
+#![tactic(auto)]
 ghost use Rattle.std.specs.Prelude.{◌≡◌, ◌-◌, ◌≤◌, length};
 ghost use Rattle.columns.specs.Columns.{cleared};
-ghost use Rattle.columns.specs.Loans.{entry, exit};
+ghost use Rattle.columns.specs.Loans.{now_of};
 ghost use Rattle.ask_edges.specs.Object.{edges_found, OwnRead};
 ghost use Rattle.ask_short.specs.Lean.{plain_of, lean_edges};
 ghost use Rattle.ask_short_edges.specs.Replied.{EdgesReplied, ShortSettled};
@@ -23,8 +24,8 @@ fn read_plain(
 ) -> usize
     requires start_le_end { (start ≤ end) × (end ≤ length edge_codes.now) × (end ≤ length targets.now) }
     requires start_in_bounds { (end - start ≤ length own_targets.old) × (end - start ≤ length own_labels.old) }
-    ensures { OwnRead objects (entry targets) (plain_of (entry edge_codes) (entry fields)) start (end - start) (end - start) result
-        (entry own_targets) (entry own_labels) (exit own_targets) (exit own_labels) }
+    ensures { OwnRead objects targets.now (plain_of edge_codes.now fields.now) start (end - start) (end - start) result
+        own_targets.old own_labels.old own_targets.new own_labels.new }
 {
     let mut next = 0;
     let mut k = 0;
@@ -50,7 +51,7 @@ fn read_plain(
 
 // Clears both columns.
 fn refuse(own_targets: &mut [u32], own_labels: &mut [u32]) -> u64
-    ensures { (result ≡ 0) × (exit own_targets ≡ cleared 0 (entry own_targets)) × (exit own_labels ≡ cleared 0 (entry own_labels)) }
+    ensures { (result ≡ 0) × (own_targets.new ≡ cleared 0 own_targets.old) × (own_labels.new ≡ cleared 0 own_labels.old) }
 {
     columns::zero_u32(own_targets, 0);
     columns::zero_u32(own_labels, 0);
@@ -60,7 +61,7 @@ fn refuse(own_targets: &mut [u32], own_labels: &mut [u32]) -> u64
 // Clears the ends behind so many edges, or all where fewer were read: 2 more than there are, or 0.
 fn settle(count: usize, read: usize, own_targets: &mut [u32], own_labels: &mut [u32]) -> u64
     requires { count ≤ length own_targets.old }
-    ensures { ShortSettled count read result (entry own_targets) (entry own_labels) (exit own_targets) (exit own_labels) }
+    ensures { ShortSettled count read result own_targets.old own_labels.old own_targets.new own_labels.new }
 {
     if read < count {
         return refuse(own_targets, own_labels);
@@ -81,8 +82,8 @@ pub fn object_edges(
     own_targets: &mut [u32],
     own_labels: &mut [u32],
 ) -> u64
-    ensures { let graph = lean_edges entry bases short edge_codes targets fields in
-        EdgesReplied (edges_found graph object (length (entry own_targets)) (length (entry own_labels))) result (exit own_targets) (exit own_labels) }
+    ensures { let graph = lean_edges now_of bases short edge_codes targets fields in
+        EdgesReplied (edges_found graph object (length own_targets.old) (length own_labels.old)) result own_targets.new own_labels.new }
 {
     let at = ask_short::span(bases, short, edge_codes.len(), targets.len(), object);
     match at {

@@ -1,6 +1,7 @@
 // The target of an object's field, and of its weak reference, by the short columns alone, as `ask_short` answers the other questions.
+#![tactic(auto)]
 ghost use Rattle.std.specs.Prelude.{◌≡◌, ◌+◌, ◌<◌, ◌≤◌, length};
-ghost use Rattle.columns.specs.Loans.{entry};
+ghost use Rattle.columns.specs.Loans.{now_of};
 ghost use Rattle.rules.specs.Types.{array_element_label, field_says, referent_says};
 ghost use Rattle.ask_field.specs.Sought.{decoded, sought_in, field_found, referent_found};
 ghost use Rattle.ask_short.specs.Lean.{plain_of, lean_columns, lean_edges};
@@ -12,7 +13,7 @@ use rules::{Field, Label, Referent, Span};
 // The first edge with a field's label, by one look into the fields. Elements are passed over; an escape cannot be read here.
 fn first_label(edge_codes: &[u16], start: usize, count: usize, fields: &[u32], label: u32) -> Sought
     requires { (start + count ≤ length edge_codes.now) × (label < array_element_label) }
-    ensures { result ≡ decoded (plain_of (entry edge_codes) (entry fields)) start count label }
+    ensures { result ≡ decoded (plain_of edge_codes.now fields.now) start count label }
 {
     let most = ask_field::plain_codes(fields);
     let mut k = 0;
@@ -41,7 +42,7 @@ fn first_label(edge_codes: &[u16], start: usize, count: usize, fields: &[u32], l
 // The first edge whose coarse label matches.
 fn seek(edge_codes: &[u16], start: usize, count: usize, fields: &[u32], label: u32) -> Sought
     requires { start + count ≤ length edge_codes.now }
-    ensures { result ≡ sought_in (plain_of (entry edge_codes) (entry fields)) start count label }
+    ensures { result ≡ sought_in (plain_of edge_codes.now fields.now) start count label }
 {
     if label == Label::ARRAY_ELEMENT {
         return ask_field::first_element(edge_codes, start, count);
@@ -62,7 +63,7 @@ pub fn field(
     object: usize,
     label: u32,
 ) -> Field
-    ensures { field_says result ≡ field_found (lean_edges entry bases short edge_codes targets fields) object label }
+    ensures { field_says result ≡ field_found (lean_edges now_of bases short edge_codes targets fields) object label }
 {
     let at = ask_short::span(bases, short, edge_codes.len(), targets.len(), object);
     match at {
@@ -92,7 +93,7 @@ pub fn referent(
     object: usize,
     label: u32,
 ) -> Referent
-    ensures { referent_says result ≡ referent_found (lean_columns entry bases short edge_codes targets fields weak_from weak_to) object label }
+    ensures { referent_says result ≡ referent_found (lean_columns now_of bases short edge_codes targets fields weak_from weak_to) object label }
 {
     let at = ask_short::span(bases, short, edge_codes.len(), targets.len(), object);
     match at {

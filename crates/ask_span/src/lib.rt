@@ -1,7 +1,8 @@
 // The questions of `Graph` about where an object's edges and weak pairs sit: over the used parts of a graph's columns, writing nothing.
 // The parts and the weak rows are read in crates of their own, and have their names here.
+#![tactic(auto)]
 ghost use Rattle.std.specs.Prelude.{◌≡◌, ◌<◌, [], ◌∷◌, length};
-ghost use Rattle.columns.specs.Loans.{entry};
+ghost use Rattle.columns.specs.Loans.{now_of};
 ghost use Rattle.store.specs.Blocked.{offset_says};
 ghost use Rattle.rules.specs.Tables.{offset_columns};
 ghost use Rattle.rules.specs.Types.{span_says, edge_count_says};
@@ -56,7 +57,7 @@ pub fn span_within(
     targets: usize,
     object: usize,
 ) -> Span
-    ensures { span_says result ≡ span_of (offset_columns entry bases short long_at long_value) codes targets object }
+    ensures { span_says result ≡ span_of (offset_columns now_of bases short long_at long_value) codes targets object }
 {
     if short.len() <= object {
         return Span::Index(object);
@@ -79,7 +80,7 @@ pub fn count_within(
     targets: usize,
     object: usize,
 ) -> EdgeCount
-    ensures { edge_count_says result ≡ count_of (span_of (offset_columns entry bases short long_at long_value) codes targets object) }
+    ensures { edge_count_says result ≡ count_of (span_of (offset_columns now_of bases short long_at long_value) codes targets object) }
 {
     let at = span_within(bases, short, long_at, long_value, codes, targets, object);
     match at {
@@ -99,7 +100,7 @@ pub fn span(
     targets: &[u32],
     object: usize,
 ) -> Span
-    ensures { span_says result ≡ span_of (offset_columns entry bases short long_at long_value) (length (entry edge_codes)) (length (entry targets)) object }
+    ensures { span_says result ≡ span_of (offset_columns now_of bases short long_at long_value) (length edge_codes.now) (length targets.now) object }
 {
     let codes = edge_codes.len();
     span_within(
@@ -123,7 +124,7 @@ pub fn edge_count(
     targets: &[u32],
     object: usize,
 ) -> EdgeCount
-    ensures { edge_count_says result ≡ count_of (span_of (offset_columns entry bases short long_at long_value) (length (entry edge_codes)) (length (entry targets)) object) }
+    ensures { edge_count_says result ≡ count_of (span_of (offset_columns now_of bases short long_at long_value) (length edge_codes.now) (length targets.now) object) }
 {
     let codes = edge_codes.len();
     count_within(

@@ -1,6 +1,6 @@
 // Where an object's weak pairs sit. `ask_span` passes this on.
+#![tactic(auto)]
 ghost use Rattle.std.specs.Prelude.{◌≡◌, ◌+◌, ◌^◌, ◌<◌, length};
-ghost use Rattle.columns.specs.Loans.{entry};
 ghost use Rattle.rules.specs.Types.{weak_says};
 ghost use Rattle.ask_weak.specs.Rows.{weak_end, weak_rows_of};
 
@@ -9,7 +9,7 @@ use rules::WeakReferents;
 // Where the rows of an object end that start at `start`. Most objects have none, and then one search is enough.
 fn rows_end(weak_from: &[u32], object: usize, start: usize) -> usize
     requires { object + 1 < 2 ^ 64 }
-    ensures { result ≡ weak_end (entry weak_from) object start }
+    ensures { result ≡ weak_end weak_from.now object start }
 {
     if weak_from.len() <= start {
         return start;
@@ -27,7 +27,7 @@ pub fn weak_referents(
     weak_to: &[u32],
     object: usize,
 ) -> WeakReferents
-    ensures { weak_says result ≡ weak_rows_of (length (entry short)) (entry weak_from) (entry weak_to) object }
+    ensures { weak_says result ≡ weak_rows_of (length short.now) weak_from.now weak_to.now object }
 {
     if short.len() <= object {
         return WeakReferents::Index(object);

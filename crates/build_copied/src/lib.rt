@@ -1,8 +1,9 @@
 // A build by the copied route: the first half lays the edges, the second codes offsets and labels, and then every column is kept or cleared.
+#![tactic(auto)]
 ghost use Rattle.std.specs.Prelude.{◌≡◌};
 ghost use Rattle.rules.specs.Types.{built_says};
 ghost use Rattle.rules.specs.Built.{build_left};
-ghost use Rattle.columns.specs.Loans.{entry, exit};
+ghost use Rattle.columns.specs.Loans.{now_of, old_of, new_of};
 ghost use Rattle.rules.specs.Tables.{object_table, class_table, slot_table, static_table, schema_of, copied_route, input_of, room_of, coding_room, left_in, coding_left};
 
 use rules::{Built, ReferencePolicy};
@@ -54,14 +55,14 @@ fn hinted(
     counting: &mut [u64],
     ranking: &mut [u64],
 ) -> Built
-    ensures { let schema = schema_of (class_table entry class_ids loaders dumped class_kinds slot_starts slot_ends static_starts static_ends)
-        (slot_table entry slot_offsets slot_labels slot_weak) (static_table entry static_names static_types static_values) names in
-        let route = copied_route entry codes escape_places escape_ids base starts in
-        let input = input_of (object_table entry ids kinds classes lengths) schema route (entry roots) policy in
-        let room = room_of entry targets labels weak_from weak_to roots_out working
-        (coding_room entry bases short long_at long_value fields table escape_at escape_label edge_codes counting ranking) in
-        let coded = coding_left exit bases short long_at long_value fields table escape_at escape_label edge_codes counting ranking in
-        left_in exit (built_says result) targets labels weak_from weak_to roots_out working coded (exit account) ≡ build_left input room }
+    ensures { let schema = schema_of (class_table now_of class_ids loaders dumped class_kinds slot_starts slot_ends static_starts static_ends)
+        (slot_table now_of slot_offsets slot_labels slot_weak) (static_table now_of static_names static_types static_values) names in
+        let route = copied_route now_of codes escape_places escape_ids base starts in
+        let input = input_of (object_table now_of ids kinds classes lengths) schema route roots.now policy in
+        let room = room_of old_of targets labels weak_from weak_to roots_out working
+        (coding_room old_of bases short long_at long_value fields table escape_at escape_label edge_codes counting ranking) in
+        let coded = coding_left new_of bases short long_at long_value fields table escape_at escape_label edge_codes counting ranking in
+        left_in new_of (built_says result) targets labels weak_from weak_to roots_out working coded account.new ≡ build_left input room }
 {
     let v = build_edges::lay_copied(
         ids,
@@ -180,14 +181,14 @@ pub fn build_copied(
     counting: &mut [u64],
     ranking: &mut [u64],
 ) -> Built
-    ensures { let schema = schema_of (class_table entry class_ids loaders dumped class_kinds slot_starts slot_ends static_starts static_ends)
-        (slot_table entry slot_offsets slot_labels slot_weak) (static_table entry static_names static_types static_values) names in
-        let route = copied_route entry codes escape_places escape_ids base starts in
-        let input = input_of (object_table entry ids kinds classes lengths) schema route (entry roots) policy in
-        let room = room_of entry targets labels weak_from weak_to roots_out working
-        (coding_room entry bases short long_at long_value fields table escape_at escape_label edge_codes counting ranking) in
-        let coded = coding_left exit bases short long_at long_value fields table escape_at escape_label edge_codes counting ranking in
-        left_in exit (built_says result) targets labels weak_from weak_to roots_out working coded (exit account) ≡ build_left input room }
+    ensures { let schema = schema_of (class_table now_of class_ids loaders dumped class_kinds slot_starts slot_ends static_starts static_ends)
+        (slot_table now_of slot_offsets slot_labels slot_weak) (static_table now_of static_names static_types static_values) names in
+        let route = copied_route now_of codes escape_places escape_ids base starts in
+        let input = input_of (object_table now_of ids kinds classes lengths) schema route roots.now policy in
+        let room = room_of old_of targets labels weak_from weak_to roots_out working
+        (coding_room old_of bases short long_at long_value fields table escape_at escape_label edge_codes counting ranking) in
+        let coded = coding_left new_of bases short long_at long_value fields table escape_at escape_label edge_codes counting ranking in
+        left_in new_of (built_says result) targets labels weak_from weak_to roots_out working coded account.new ≡ build_left input room }
 {
     lookup_hints::mark(ids, short);
     hinted(

@@ -1,8 +1,9 @@
 // The first half of a build: the checks, the needs, ROOM 1 to 4, and the edges. A wide function is a straight line of stages; a stage that is handed a
 // refusal hands it on.
+#![tactic(auto)]
 ghost use Rattle.std.specs.Prelude.{◌≡◌, true, ◌^◌, ◌≤◌, min, length};
 ghost use Rattle.columns.specs.Columns.{accepts};
-ghost use Rattle.columns.specs.Loans.{entry, exit};
+ghost use Rattle.columns.specs.Loans.{now_of};
 ghost use Rattle.index.specs.Copied.{ids_of};
 ghost use Rattle.rules.specs.Types.{checked_says};
 ghost use Rattle.rules.specs.Account.{no_account};
@@ -41,7 +42,7 @@ fn roots_of(
 ) -> usize
     requires { accepts (checked_says c) ≡ true → Below objects roots.now × (objects ≤ 2 ^ 32) × ClassMarks objects working.old }
     ensures { accepts (checked_says c) ≡ true →
-        Collected (entry roots) objects (entry working) (entry roots_out) result (exit working) (exit roots_out) }
+        Collected roots.now objects working.old roots_out.old result working.new roots_out.new }
 {
     if !passed(c) {
         return 0;
@@ -70,9 +71,9 @@ fn weak_copied(
 ) -> usize
     requires { accepts (checked_says c) ≡ true →
         CopiedAsked ids.now kinds.now classes.now starts.now class_kinds.now slot_starts.now slot_ends.now (length slot_weak.now) }
-    ensures { let held = ids_of (entry codes) (entry escape_places) (entry escape_ids) base in
-        let need = copied_total (entry ids) (entry kinds) (entry classes) (entry starts) held
-        (entry class_kinds) (entry slot_starts) (entry slot_ends) (entry slot_weak) policy (length (entry ids)) in
+    ensures { let held = ids_of codes.now escape_places.now escape_ids.now base in
+        let need = copied_total ids.now kinds.now classes.now starts.now held
+        class_kinds.now slot_starts.now slot_ends.now slot_weak.now policy (length ids.now) in
         (accepts (checked_says c) ≡ true → Fits (min weak_from weak_to) need result) }
 {
     if !passed(c) {
@@ -129,8 +130,8 @@ fn weak_raw(
     requires { accepts (checked_says c) ≡ true →
         RawAsked ids.now kinds.now classes.now starts.now bodies.now (length bytes.now) size
         class_kinds.now slot_starts.now slot_ends.now (length slot_offsets.now) (length slot_weak.now) }
-    ensures { let need = raw_total (entry ids) (entry kinds) (entry classes) (entry starts) (entry bodies) (entry bytes) size
-        (entry class_kinds) (entry slot_starts) (entry slot_ends) (entry slot_offsets) (entry slot_weak) policy (length (entry ids)) in
+    ensures { let need = raw_total ids.now kinds.now classes.now starts.now bodies.now bytes.now size
+        class_kinds.now slot_starts.now slot_ends.now slot_offsets.now slot_weak.now policy (length ids.now) in
         (accepts (checked_says c) ≡ true → Fits (min weak_from weak_to) need result) }
 {
     if !passed(c) {
@@ -203,13 +204,13 @@ pub fn lay_copied(
     working: &mut [u64],
     account: &mut [[u64; 3]; 4],
 ) -> Built
-    ensures { let schema = schema_of (class_table entry class_ids loaders dumped class_kinds slot_starts slot_ends static_starts static_ends)
-        (slot_table entry slot_offsets slot_labels slot_weak) (static_table entry static_names static_types static_values) names in
-        let route = copied_route entry codes escape_places escape_ids base starts in
-        let input = input_of (object_table entry ids kinds classes lengths) schema route (entry roots) policy in
-        Laying input bases (length (entry short)) result
-        (entry targets) (entry labels) (entry weak_from) (entry weak_to) (entry roots_out) (entry working)
-        (exit targets) (exit labels) (exit weak_from) (exit weak_to) (exit roots_out) (exit working) (exit account) }
+    ensures { let schema = schema_of (class_table now_of class_ids loaders dumped class_kinds slot_starts slot_ends static_starts static_ends)
+        (slot_table now_of slot_offsets slot_labels slot_weak) (static_table now_of static_names static_types static_values) names in
+        let route = copied_route now_of codes escape_places escape_ids base starts in
+        let input = input_of (object_table now_of ids kinds classes lengths) schema route roots.now policy in
+        Laying input bases (length short.now) result
+        targets.old labels.old weak_from.old weak_to.old roots_out.old working.old
+        targets.new labels.new weak_from.new weak_to.new roots_out.new working.new account.new }
 {
     let c = check_input::fit_copied(
         ids,
@@ -345,13 +346,13 @@ pub fn lay_raw(
     working: &mut [u64],
     account: &mut [[u64; 3]; 4],
 ) -> Built
-    ensures { let schema = schema_of (class_table entry class_ids loaders dumped class_kinds slot_starts slot_ends static_starts static_ends)
-        (slot_table entry slot_offsets slot_labels slot_weak) (static_table entry static_names static_types static_values) names in
-        let route = raw_route entry bytes size starts bodies in
-        let input = input_of (object_table entry ids kinds classes lengths) schema route (entry roots) policy in
-        Laying input bases (length (entry short)) result
-        (entry targets) (entry labels) (entry weak_from) (entry weak_to) (entry roots_out) (entry working)
-        (exit targets) (exit labels) (exit weak_from) (exit weak_to) (exit roots_out) (exit working) (exit account) }
+    ensures { let schema = schema_of (class_table now_of class_ids loaders dumped class_kinds slot_starts slot_ends static_starts static_ends)
+        (slot_table now_of slot_offsets slot_labels slot_weak) (static_table now_of static_names static_types static_values) names in
+        let route = raw_route now_of bytes size starts bodies in
+        let input = input_of (object_table now_of ids kinds classes lengths) schema route roots.now policy in
+        Laying input bases (length short.now) result
+        targets.old labels.old weak_from.old weak_to.old roots_out.old working.old
+        targets.new labels.new weak_from.new weak_to.new roots_out.new working.new account.new }
 {
     let c = check_input::fit_raw(
         ids,

@@ -1,7 +1,8 @@
 // The second half of a build: what the first half left is coded, and then every column is kept or cleared.
+#![tactic(auto)]
 ghost use Rattle.std.specs.Prelude.{◌≡◌, ◌+◌, ◌≤◌, min};
 ghost use Rattle.rules.specs.Types.{built_says};
-ghost use Rattle.columns.specs.Loans.{entry, exit};
+ghost use Rattle.columns.specs.Loans.{now_of, old_of, new_of};
 ghost use Rattle.rules.specs.Tables.{coding_room, coding_left};
 ghost use Rattle.labels.specs.Fields.{name_columns};
 ghost use Rattle.build_finish.specs.Rest.{Asked, Rest};
@@ -49,12 +50,12 @@ pub fn finish(
 ) -> Built
     requires { let named = name_columns (λ x. x.now) slot_starts slot_ends static_starts static_ends slot_labels static_names static_types in
         Asked named classes names objects (built_says v) labels.old working.old }
-    ensures { let named = name_columns entry slot_starts slot_ends static_starts static_ends slot_labels static_names static_types in
-        let room = coding_room entry bases short long_at long_value fields table escape_at escape_label edge_codes counting ranking in
-        let left = coding_left exit bases short long_at long_value fields table escape_at escape_label edge_codes counting ranking in
+    ensures { let named = name_columns now_of slot_starts slot_ends static_starts static_ends slot_labels static_names static_types in
+        let room = coding_room old_of bases short long_at long_value fields table escape_at escape_label edge_codes counting ranking in
+        let left = coding_left new_of bases short long_at long_value fields table escape_at escape_label edge_codes counting ranking in
         Rest named classes names objects
-        (built_says v) (entry targets) (entry labels) (entry weak_from) (entry weak_to) (entry roots_out) (entry working) (entry account) room
-        (built_says result) (exit targets) (exit labels) (exit weak_from) (exit weak_to) (exit roots_out) (exit working) (exit account) left }
+        (built_says v) targets.old labels.old weak_from.old weak_to.old roots_out.old working.old account.old room
+        (built_says result) targets.new labels.new weak_from.new weak_to.new roots_out.new working.new account.new left }
 {
     let n = up_to(objects, working.len());
     let m = build_rooms::least(build_rooms::edges_kept(v), labels.len());

@@ -1,8 +1,8 @@
 // The narrow stages of a build: ROOM of the first four buffers, and the end, where every column is kept or cleared.
+#![tactic(auto)]
 ghost use Rattle.std.specs.Prelude.{◌≡◌, ◌+◌, ◌≤◌, min, cond};
 ghost use Rattle.rules.specs.Account.{no_account};
 ghost use Rattle.columns.specs.Columns.{kept};
-ghost use Rattle.columns.specs.Loans.{entry, exit};
 ghost use Rattle.rules.specs.Types.{checked_says, built_says};
 ghost use Rattle.build_rooms.specs.Stages.{early, first_short, room_says, Settled};
 
@@ -129,7 +129,7 @@ pub fn roots_kept(v: Built) -> usize
 
 // The account of a refused build is zero.
 fn settle_account(ok: bool, account: &mut [[u64; 3]; 4])
-    ensures { exit account ≡ cond ok (entry account) no_account }
+    ensures { account.new ≡ cond ok account.old no_account }
 {
     if ok {
         return;
@@ -150,8 +150,8 @@ pub fn settle(
     account: &mut [[u64; 3]; 4],
 )
     ensures { Settled (built_says v)
-        (entry targets) (entry labels) (entry weak_from) (entry weak_to) (entry roots_out) (entry working) (entry account)
-        (exit targets) (exit labels) (exit weak_from) (exit weak_to) (exit roots_out) (exit working) (exit account) }
+        targets.old labels.old weak_from.old weak_to.old roots_out.old working.old account.old
+        targets.new labels.new weak_from.new weak_to.new roots_out.new working.new account.new }
 {
     let edges = edges_kept(v);
     let weak = weak_kept(v);

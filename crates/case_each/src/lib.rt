@@ -1,5 +1,6 @@
 // What is written of a field asked of each object of a list (M-104): the answers of the objects that exist, in columns of just their number; what is said where one of
 // the columns is a number short; and what is said of the whole list, where an object of it does not exist.
+#![tactic(auto)]
 mod lent;
 mod list;
 mod show;

@@ -1,5 +1,6 @@
 // What is written of the incoming side of a graph (M-103): its columns in just the room that they need, what is said where one of them is a number short,
 // and who holds each object.
+#![tactic(auto)]
 mod held;
 mod lent;
 mod show;

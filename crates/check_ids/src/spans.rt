@@ -1,14 +1,13 @@
 // The check of the objects' parts: of the codes on the copied route, of the bytes on the raw one.
 ghost use Rattle.std.specs.Prelude.{◌≡◌, ◌+◌, ◌≤◌, length};
 ghost use Rattle.columns.specs.Lists.{first_place};
-ghost use Rattle.columns.specs.Loans.{entry};
 ghost use Rattle.rules.specs.Verdict.{bad_span};
 ghost use Rattle.check_ids.specs.Spans.{slots_of, part_length, copied_span_fault, raw_span_fault, copied_spans, raw_spans};
 
 // How many slots an object's class has, 0 for what is no instance.
 pub fn slots_of(kind: u8, class: u32, slot_starts: &[u32], slot_ends: &[u32]) -> u32
     requires { length slot_ends.now ≡ length slot_starts.now }
-    ensures { result ≡ slots_of kind class (entry slot_starts) (entry slot_ends) }
+    ensures { result ≡ slots_of kind class slot_starts.now slot_ends.now }
 {
     if 0 < kind {
         return 0;
@@ -26,7 +25,7 @@ pub fn slots_of(kind: u8, class: u32, slot_starts: &[u32], slot_ends: &[u32]) ->
 // The length of an object's part of the codes: its slots or its elements.
 pub fn part_of(kind: u8, class: u32, len: u32, slot_starts: &[u32], slot_ends: &[u32]) -> u32
     requires { length slot_ends.now ≡ length slot_starts.now }
-    ensures { result ≡ part_length kind class len (entry slot_starts) (entry slot_ends) }
+    ensures { result ≡ part_length kind class len slot_starts.now slot_ends.now }
 {
     if kind == 1 {
         return len;
@@ -60,8 +59,8 @@ pub fn first_copied_span(
     requires lengths_len { length lengths.now ≡ length kinds.now }
     requires starts_len { length starts.now ≡ length kinds.now }
     requires slot_ends_len { length slot_ends.now ≡ length slot_starts.now }
-    ensures { result ≡ first_place (bad_span (copied_spans (entry kinds) (entry classes) (entry lengths) (entry slot_starts) (entry slot_ends)
-        (entry codes) (entry starts))) (length (entry kinds)) }
+    ensures { result ≡ first_place (bad_span (copied_spans kinds.now classes.now lengths.now slot_starts.now slot_ends.now
+        codes.now starts.now)) (length kinds.now) }
 {
     let mut o = 0;
     while o < kinds.len() {
@@ -110,7 +109,7 @@ pub fn first_raw_span(
     requires starts_len { length starts.now ≡ length kinds.now }
     requires bodies_len { length bodies.now ≡ length kinds.now }
     requires size_bound { size ≤ 8 }
-    ensures { result ≡ first_place (bad_span (raw_spans (entry kinds) (entry lengths) (entry bytes) size (entry starts) (entry bodies))) (length (entry kinds)) }
+    ensures { result ≡ first_place (bad_span (raw_spans kinds.now lengths.now bytes.now size starts.now bodies.now)) (length kinds.now) }
 {
     let mut o = 0;
     while o < kinds.len() {

@@ -2,7 +2,6 @@
 ghost use Rattle.std.specs.Prelude.{◌≡◌, true};
 ghost use Rattle.columns.specs.Lists.{◌!◌};
 ghost use Rattle.columns.specs.Columns.{accepts};
-ghost use Rattle.columns.specs.Loans.{entry};
 ghost use Rattle.rules.specs.Types.{checked_says};
 ghost use Rattle.check_ids.specs.Copying.{held_codes};
 ghost use Rattle.check_places.specs.Placing.{ClassTables, PartTables, CodeTables, raw_places, copied_places};
@@ -38,10 +37,10 @@ pub(crate) fn count_copied(
         (CodeTables kinds.now classes.now lengths.now class_kinds.now slot_starts.now slot_ends.now slot_weak.now codes.now starts.now)
         × (ClassTables ids.now class_ids.now loaders.now dumped.now static_starts.now static_ends.now static_types.now static_values.now)
         × (checked_says tested ! 1 ≡ held_codes codes.now) }
-    ensures { let n = copied_places (entry ids) (entry kinds) (entry classes) (entry lengths)
-        (entry class_ids) (entry loaders) (entry dumped) (entry class_kinds)
-        (entry slot_starts) (entry slot_ends) (entry static_starts) (entry static_ends)
-        (entry slot_weak) (entry static_types) (entry static_values) (entry codes) (entry starts) policy in
+    ensures { let n = copied_places ids.now kinds.now classes.now lengths.now
+        class_ids.now loaders.now dumped.now class_kinds.now
+        slot_starts.now slot_ends.now static_starts.now static_ends.now
+        slot_weak.now static_types.now static_values.now codes.now starts.now policy in
         PlacesCounted (checked_says tested) room n (checked_says result) }
 {
     match tested {
@@ -91,9 +90,9 @@ pub(crate) fn count_raw(
     requires { accepts (checked_says tested) ≡ true →
         (PartTables kinds.now classes.now lengths.now slot_starts.now slot_ends.now)
         × (ClassTables ids.now class_ids.now loaders.now dumped.now static_starts.now static_ends.now static_types.now static_values.now) }
-    ensures { let n = raw_places (entry ids) (entry kinds) (entry classes) (entry lengths)
-        (entry class_ids) (entry loaders) (entry dumped) (entry slot_starts) (entry slot_ends) (entry static_starts) (entry static_ends)
-        (entry static_types) (entry static_values) in
+    ensures { let n = raw_places ids.now kinds.now classes.now lengths.now
+        class_ids.now loaders.now dumped.now slot_starts.now slot_ends.now static_starts.now static_ends.now
+        static_types.now static_values.now in
         checked_says result ≡ counted_says (checked_says tested) n n }
 {
     match tested {

@@ -1,7 +1,7 @@
 // The checks of both routes in the order of refusal, but for the count of places.
 ghost use Rattle.std.specs.Prelude.{◌≡◌, [], ◌∷◌, length, true};
 ghost use Rattle.columns.specs.Columns.{zeros, accepts};
-ghost use Rattle.columns.specs.Loans.{entry, exit};
+ghost use Rattle.columns.specs.Loans.{now_of};
 ghost use Rattle.rules.specs.Types.{checked_says};
 ghost use Rattle.rules.specs.Verdict.{first_of};
 ghost use Rattle.rules.specs.Tables.{object_table, class_table, slot_table, static_table, copied_route, raw_route, schema_of, input_of};
@@ -45,12 +45,12 @@ pub(crate) fn judge_copied(
     working: &mut [u64],
 ) -> Checked
     requires { working.old ≡ zeros (length working.old) }
-    ensures result_value { let schema = schema_of (class_table entry class_ids loaders dumped class_kinds slot_starts slot_ends static_starts static_ends)
-        (slot_table entry slot_offsets slot_labels slot_weak) (static_table entry static_names static_types static_values) names in
-        let input = input_of (object_table entry ids kinds classes lengths) schema (copied_route entry codes escape_places escape_ids base starts) (entry roots) no_policy in
-        checked_says result ≡ first_of (faults_before input) (0 ∷ held_codes (entry codes) ∷ []) }
+    ensures result_value { let schema = schema_of (class_table now_of class_ids loaders dumped class_kinds slot_starts slot_ends static_starts static_ends)
+        (slot_table now_of slot_offsets slot_labels slot_weak) (static_table now_of static_names static_types static_values) names in
+        let input = input_of (object_table now_of ids kinds classes lengths) schema (copied_route now_of codes escape_places escape_ids base starts) roots.now no_policy in
+        checked_says result ≡ first_of (faults_before input) (0 ∷ held_codes codes.now ∷ []) }
     ensures working_value { accepts (checked_says result) ≡ true →
-        exit working ≡ marks_if (find_columns (entry ids) (entry kinds) (entry class_ids) (entry dumped)) (length (entry class_ids)) (length (entry working)) }
+        working.new ≡ marks_if (find_columns ids.now kinds.now class_ids.now dumped.now) (length class_ids.now) (length working.old) }
 {
     if tables::copied_lengths(
         ids,
@@ -157,12 +157,12 @@ pub(crate) fn judge_raw(
     working: &mut [u64],
 ) -> Checked
     requires { working.old ≡ zeros (length working.old) }
-    ensures result_value { let schema = schema_of (class_table entry class_ids loaders dumped class_kinds slot_starts slot_ends static_starts static_ends)
-        (slot_table entry slot_offsets slot_labels slot_weak) (static_table entry static_names static_types static_values) names in
-        let input = input_of (object_table entry ids kinds classes lengths) schema (raw_route entry bytes size starts bodies) (entry roots) no_policy in
+    ensures result_value { let schema = schema_of (class_table now_of class_ids loaders dumped class_kinds slot_starts slot_ends static_starts static_ends)
+        (slot_table now_of slot_offsets slot_labels slot_weak) (static_table now_of static_names static_types static_values) names in
+        let input = input_of (object_table now_of ids kinds classes lengths) schema (raw_route now_of bytes size starts bodies) roots.now no_policy in
         checked_says result ≡ first_of (faults_before input) (0 ∷ 0 ∷ []) }
     ensures working_value { accepts (checked_says result) ≡ true →
-        exit working ≡ marks_if (find_columns (entry ids) (entry kinds) (entry class_ids) (entry dumped)) (length (entry class_ids)) (length (entry working)) }
+        working.new ≡ marks_if (find_columns ids.now kinds.now class_ids.now dumped.now) (length class_ids.now) (length working.old) }
 {
     if tables::raw_lengths(
         ids,

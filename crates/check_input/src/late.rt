@@ -1,6 +1,5 @@
 // The checks behind those of the tables: copied ids, parts and roots.
 ghost use Rattle.std.specs.Prelude.{◌≡◌, [], ◌∷◌, length, ◌≤◌};
-ghost use Rattle.columns.specs.Loans.{entry};
 ghost use Rattle.rules.specs.Types.{checked_says};
 ghost use Rattle.rules.specs.Verdict.{first_of};
 ghost use Rattle.check_ids.specs.Copying.{held_codes};
@@ -32,9 +31,9 @@ pub(crate) fn judge_ids(
     requires starts_len { length starts.now ≡ length ids.now }
     requires slot_ends_len { length slot_ends.now ≡ length slot_starts.now }
     requires escape_ids_len { length escape_ids.now ≡ length escape_places.now }
-    ensures { let columns = late_columns (entry ids) (entry kinds) (entry classes) (entry lengths) (entry slot_starts) (entry slot_ends)
-        (entry codes) (entry escape_places) (entry escape_ids) base (entry starts) (entry roots) in
-        checked_says result ≡ first_of (faults_late columns) (0 ∷ held_codes (entry codes) ∷ []) }
+    ensures { let columns = late_columns ids.now kinds.now classes.now lengths.now slot_starts.now slot_ends.now
+        codes.now escape_places.now escape_ids.now base starts.now roots.now in
+        checked_says result ≡ first_of (faults_late columns) (0 ∷ held_codes codes.now ∷ []) }
 {
     match copied::first_copied(codes, escape_places, escape_ids, base) {
         Tested::At(p) => Checked::Refused(Refusal::Copied(p)),
@@ -76,7 +75,7 @@ pub(crate) fn judge_bodies(
     requires starts_len { length starts.now ≡ length ids.now }
     requires bodies_len { length bodies.now ≡ length ids.now }
     requires size_bound { size ≤ 8 }
-    ensures { checked_says result ≡ first_of (faults_late (late_raw (entry ids) (entry kinds) (entry lengths) (entry starts) (entry bodies) (entry bytes) (entry roots) size)) (0 ∷ 0 ∷ []) }
+    ensures { checked_says result ≡ first_of (faults_late (late_raw ids.now kinds.now lengths.now starts.now bodies.now bytes.now roots.now size)) (0 ∷ 0 ∷ []) }
 {
     let o = spans::first_raw_span(kinds, lengths, bytes, size, starts, bodies);
     if o < ids.len() {

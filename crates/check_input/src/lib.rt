@@ -1,6 +1,7 @@
 // The input checks of document 01, put together: refusals 1 to 8 for both routes.
+#![tactic(auto)]
 ghost use Rattle.std.specs.Prelude.{length};
-ghost use Rattle.columns.specs.Loans.{entry, exit};
+ghost use Rattle.columns.specs.Loans.{now_of};
 ghost use Rattle.rules.specs.Tables.{object_table, class_table, slot_table, static_table, copied_route, raw_route, schema_of, input_of};
 ghost use Rattle.check_input.specs.Flat.{Judged, Marked, Fitted};
 
@@ -42,10 +43,10 @@ pub fn fit_copied(
     room: usize,
     working: &mut [u64],
 ) -> Checked
-    ensures { let schema = schema_of (class_table entry class_ids loaders dumped class_kinds slot_starts slot_ends static_starts static_ends)
-        (slot_table entry slot_offsets slot_labels slot_weak) (static_table entry static_names static_types static_values) names in
-        let input = input_of (object_table entry ids kinds classes lengths) schema (copied_route entry codes escape_places escape_ids base starts) (entry roots) policy in
-        Fitted input room (length (entry working)) result (exit working) }
+    ensures { let schema = schema_of (class_table now_of class_ids loaders dumped class_kinds slot_starts slot_ends static_starts static_ends)
+        (slot_table now_of slot_offsets slot_labels slot_weak) (static_table now_of static_names static_types static_values) names in
+        let input = input_of (object_table now_of ids kinds classes lengths) schema (copied_route now_of codes escape_places escape_ids base starts) roots.now policy in
+        Fitted input room (length working.old) result working.new }
 {
     columns::zero_u64(working, 0);
     let tested = judge::judge_copied(
@@ -131,10 +132,10 @@ pub fn fit_raw(
     policy: ReferencePolicy,
     working: &mut [u64],
 ) -> Checked
-    ensures { let schema = schema_of (class_table entry class_ids loaders dumped class_kinds slot_starts slot_ends static_starts static_ends)
-        (slot_table entry slot_offsets slot_labels slot_weak) (static_table entry static_names static_types static_values) names in
-        let input = input_of (object_table entry ids kinds classes lengths) schema (raw_route entry bytes size starts bodies) (entry roots) policy in
-        Marked input (length (entry working)) result (exit working) }
+    ensures { let schema = schema_of (class_table now_of class_ids loaders dumped class_kinds slot_starts slot_ends static_starts static_ends)
+        (slot_table now_of slot_offsets slot_labels slot_weak) (static_table now_of static_names static_types static_values) names in
+        let input = input_of (object_table now_of ids kinds classes lengths) schema (raw_route now_of bytes size starts bodies) roots.now policy in
+        Marked input (length working.old) result working.new }
 {
     columns::zero_u64(working, 0);
     let tested = judge::judge_raw(
@@ -215,10 +216,10 @@ pub fn check_copied(
     policy: ReferencePolicy,
     working: &mut [u64],
 ) -> Checked
-    ensures { let schema = schema_of (class_table entry class_ids loaders dumped class_kinds slot_starts slot_ends static_starts static_ends)
-        (slot_table entry slot_offsets slot_labels slot_weak) (static_table entry static_names static_types static_values) names in
-        let input = input_of (object_table entry ids kinds classes lengths) schema (copied_route entry codes escape_places escape_ids base starts) (entry roots) policy in
-        Judged input (length (entry working)) result (exit working) }
+    ensures { let schema = schema_of (class_table now_of class_ids loaders dumped class_kinds slot_starts slot_ends static_starts static_ends)
+        (slot_table now_of slot_offsets slot_labels slot_weak) (static_table now_of static_names static_types static_values) names in
+        let input = input_of (object_table now_of ids kinds classes lengths) schema (copied_route now_of codes escape_places escape_ids base starts) roots.now policy in
+        Judged input (length working.old) result working.new }
 {
     let answer = fit_copied(
         ids,
@@ -283,10 +284,10 @@ pub fn check_raw(
     policy: ReferencePolicy,
     working: &mut [u64],
 ) -> Checked
-    ensures { let schema = schema_of (class_table entry class_ids loaders dumped class_kinds slot_starts slot_ends static_starts static_ends)
-        (slot_table entry slot_offsets slot_labels slot_weak) (static_table entry static_names static_types static_values) names in
-        let input = input_of (object_table entry ids kinds classes lengths) schema (raw_route entry bytes size starts bodies) (entry roots) policy in
-        Judged input (length (entry working)) result (exit working) }
+    ensures { let schema = schema_of (class_table now_of class_ids loaders dumped class_kinds slot_starts slot_ends static_starts static_ends)
+        (slot_table now_of slot_offsets slot_labels slot_weak) (static_table now_of static_names static_types static_values) names in
+        let input = input_of (object_table now_of ids kinds classes lengths) schema (raw_route now_of bytes size starts bodies) roots.now policy in
+        Judged input (length working.old) result working.new }
 {
     let answer = fit_raw(
         ids,

@@ -1,7 +1,7 @@
 // The limit of PLACES, whether a check accepts, and marks kept or cleared. `check_whole` passes these on.
+#![tactic(auto)]
 ghost use Rattle.std.specs.Prelude.{◌≡◌, cond, length};
 ghost use Rattle.columns.specs.Columns.{zeros, accepts};
-ghost use Rattle.columns.specs.Loans.{entry, exit};
 ghost use Rattle.rules.specs.Types.{checked_says};
 ghost use Rattle.check_limit.specs.Limit.{limit_says, allowed};
 
@@ -39,7 +39,7 @@ pub fn accepted(c: Checked) -> bool
 
 // Marks are kept or cleared.
 pub fn settle(keep: bool, working: &mut [u64])
-    ensures { exit working ≡ cond keep (entry working) (zeros (length (entry working))) }
+    ensures { working.new ≡ cond keep working.old (zeros (length working.old)) }
 {
     if keep {
         return;
@@ -49,7 +49,7 @@ pub fn settle(keep: bool, working: &mut [u64])
 
 // Nobody goes on with the marks: all work space is zero in the end.
 pub fn clear(working: &mut [u64])
-    ensures { exit working ≡ zeros (length (entry working)) }
+    ensures { working.new ≡ zeros (length working.old) }
 {
     settle(false, working);
 }

@@ -1,6 +1,5 @@
 // PARTS: column after column.
 ghost use Rattle.std.specs.Prelude.{◌≡◌, [], ◌∷◌, length};
-ghost use Rattle.columns.specs.Loans.{entry};
 ghost use Rattle.labels.specs.Coding.{LaidOut};
 ghost use Rattle.rules.specs.Types.{checked_says};
 ghost use Rattle.rules.specs.Verdict.{first_of};
@@ -27,7 +26,7 @@ fn judge_ends(
     roots: &[u32],
 ) -> Checked
     requires { length weak_to.now ≡ length weak_from.now }
-    ensures { checked_says result ≡ first_of (end_faults objects (entry weak_from) (entry weak_to) (entry roots)) (0 ∷ edges ∷ []) }
+    ensures { checked_says result ≡ first_of (end_faults objects weak_from.now weak_to.now roots.now) (0 ∷ edges ∷ []) }
 {
     let i = ends::first_pair(weak_from, weak_to, objects);
     if i < weak_from.len() {
@@ -52,8 +51,8 @@ fn judge_edges(
 ) -> Checked
     requires laid_out { LaidOut offsets.now (length labels.now) }
     requires weak_to_len { length weak_to.now ≡ length weak_from.now }
-    ensures { let columns = handed (entry offsets) (entry targets) (entry labels) (entry weak_from) (entry weak_to) (entry roots) in
-        checked_says result ≡ first_of (edge_faults names columns) (0 ∷ length (entry labels) ∷ []) }
+    ensures { let columns = handed offsets.now targets.now labels.now weak_from.now weak_to.now roots.now in
+        checked_says result ≡ first_of (edge_faults names columns) (0 ∷ length labels.now ∷ []) }
 {
     let objects = offsets::object_count(offsets.len());
     match edges::first_label(names, offsets, labels) {
@@ -76,8 +75,8 @@ pub(crate) fn judge_parts(
     roots: &[u32],
 ) -> Checked
     requires { length weak_to.now ≡ length weak_from.now }
-    ensures { let columns = handed (entry offsets) (entry targets) (entry labels) (entry weak_from) (entry weak_to) (entry roots) in
-        checked_says result ≡ first_of (parts_faults names columns) (0 ∷ length (entry labels) ∷ []) }
+    ensures { let columns = handed offsets.now targets.now labels.now weak_from.now weak_to.now roots.now in
+        checked_says result ≡ first_of (parts_faults names columns) (0 ∷ length labels.now ∷ []) }
 {
     match offsets::first_offset(offsets, labels.len()) {
         Fault::At(p) => refused(1, p),

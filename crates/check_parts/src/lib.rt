@@ -1,11 +1,12 @@
 // The checks of the columns handed to `from_parts`.
+#![tactic(auto)]
 pub mod edges;
 pub mod ends;
 pub mod judge;
 pub mod offsets;
 
 ghost use Rattle.std.specs.Prelude.{◌≡◌};
-ghost use Rattle.columns.specs.Loans.{entry};
+ghost use Rattle.columns.specs.Loans.{now_of};
 ghost use Rattle.rules.specs.Tables.{class_table, slot_table, static_table, schema_of};
 ghost use Rattle.rules.specs.Types.{checked_says};
 ghost use Rattle.rules.specs.Parts.{handed_says};
@@ -38,9 +39,9 @@ pub fn check_parts(
     weak_to: &[u32],
     roots: &[u32],
 ) -> Checked
-    ensures { let schema = schema_of (class_table entry class_ids loaders dumped class_kinds slot_starts slot_ends static_starts static_ends)
-        (slot_table entry slot_offsets slot_labels slot_weak) (static_table entry static_names static_types static_values) names in
-        let columns = handed (entry offsets) (entry targets) (entry labels) (entry weak_from) (entry weak_to) (entry roots) in
+    ensures { let schema = schema_of (class_table now_of class_ids loaders dumped class_kinds slot_starts slot_ends static_starts static_ends)
+        (slot_table now_of slot_offsets slot_labels slot_weak) (static_table now_of static_names static_types static_values) names in
+        let columns = handed offsets.now targets.now labels.now weak_from.now weak_to.now roots.now in
         checked_says result ≡ handed_says schema columns }
 {
     if lengths::schema_lengths(

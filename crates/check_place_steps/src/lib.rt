@@ -1,8 +1,8 @@
 // The steps of counting places that have little to read: one slot or element, all parts, and whether these stand one behind the other. `check_places` counts by
 // them.
+#![tactic(auto)]
 ghost use Rattle.std.specs.Prelude.{◌≡◌, true, not, ◌≤◌, eqb, length};
 ghost use Rattle.columns.specs.Lists.{one, total};
-ghost use Rattle.columns.specs.Loans.{entry};
 ghost use Rattle.check_ids.specs.Copying.{held_codes};
 ghost use Rattle.check_place_steps.specs.Place.{part_at, slot_held, codes_in, PartTables, PartsIn};
 
@@ -39,7 +39,7 @@ pub fn count_parts(
     slot_ends: &[u32],
 ) -> u64
     requires { PartTables kinds.now classes.now lengths.now slot_starts.now slot_ends.now }
-    ensures value { result ≡ total (part_at (entry kinds) (entry classes) (entry lengths) (entry slot_starts) (entry slot_ends)) (length (entry kinds)) }
+    ensures value { result ≡ total (part_at kinds.now classes.now lengths.now slot_starts.now slot_ends.now) (length kinds.now) }
     ensures upper_bound { result ≤ 288230376151711744 }
 {
     let mut sum: u64 = 0;
@@ -63,8 +63,8 @@ pub fn in_order(
     starts: &[u32],
 ) -> bool
     requires { PartsIn kinds.now classes.now lengths.now slot_starts.now slot_ends.now starts.now (length codes.now) }
-    ensures { result ≡ true → total (codes_in (entry kinds) (entry classes) (entry lengths) (entry slot_starts) (entry slot_ends)
-        (entry codes) (entry starts)) (length (entry kinds)) ≤ held_codes (entry codes) }
+    ensures { result ≡ true → total (codes_in kinds.now classes.now lengths.now slot_starts.now slot_ends.now
+        codes.now starts.now) (length kinds.now) ≤ held_codes codes.now }
 {
     let mut end = 0;
     let mut o = 0;

@@ -1,7 +1,6 @@
 // The places of a copied input's own ids: kept slots and elements whose code is not 0, which on codes that were checked is an id that is not 0.
 ghost use Rattle.std.specs.Prelude.{◌≡◌, ◌+◌, ◌≤◌, ◌<◌, length};
 ghost use Rattle.columns.specs.Lists.{total};
-ghost use Rattle.columns.specs.Loans.{entry};
 ghost use Rattle.check_places.specs.Placing.{one_slot, one_code, object_places, held_at, PartStands, CodeTables};
 
 use rules::ReferencePolicy;
@@ -17,7 +16,7 @@ fn count_slots(
 ) -> u64
     requires n_in_bounds { start + n ≤ length codes.now }
     requires n_in_bounds_2 { first + n ≤ length slot_weak.now }
-    ensures value { result ≡ total (one_slot (entry codes) (entry slot_weak) kept start first) n }
+    ensures value { result ≡ total (one_slot codes.now slot_weak.now kept start first) n }
     ensures upper_bound { result ≤ n }
 {
     let mut sum: u64 = 0;
@@ -32,7 +31,7 @@ fn count_slots(
 // The elements of an array, whose codes begin at `start`.
 fn count_codes(codes: &[u32], start: usize, n: usize) -> u64
     requires { start + n ≤ length codes.now }
-    ensures value { result ≡ total (one_code (entry codes) start) n }
+    ensures value { result ≡ total (one_code codes.now start) n }
     ensures upper_bound { result ≤ n }
 {
     let mut sum: u64 = 0;
@@ -58,7 +57,7 @@ fn object_places(
     start: u32,
 ) -> u64
     requires { PartStands class_kinds.now slot_starts.now slot_ends.now slot_weak.now codes.now kind class len start }
-    ensures value { result ≡ object_places (entry class_kinds) (entry slot_starts) (entry slot_ends) (entry slot_weak) (entry codes) policy kind class len start }
+    ensures value { result ≡ object_places class_kinds.now slot_starts.now slot_ends.now slot_weak.now codes.now policy kind class len start }
     ensures upper_bound { result ≤ 4294967295 }
 {
     let at = columns::index(start);
@@ -89,8 +88,8 @@ pub(crate) fn count_objects(
     policy: ReferencePolicy,
 ) -> u64
     requires { CodeTables kinds.now classes.now lengths.now class_kinds.now slot_starts.now slot_ends.now slot_weak.now codes.now starts.now }
-    ensures value { result ≡ total (held_at (entry kinds) (entry classes) (entry lengths) (entry class_kinds) (entry slot_starts) (entry slot_ends)
-        (entry slot_weak) (entry codes) (entry starts) policy) (length (entry kinds)) }
+    ensures value { result ≡ total (held_at kinds.now classes.now lengths.now class_kinds.now slot_starts.now slot_ends.now
+        slot_weak.now codes.now starts.now policy) (length kinds.now) }
     ensures upper_bound { result ≤ 288230376151711744 }
 {
     let mut sum: u64 = 0;

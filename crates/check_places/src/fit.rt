@@ -1,6 +1,5 @@
 // Whether a copied input's places surely fit a room, by what costs little: no code is read and no static is looked up.
 ghost use Rattle.std.specs.Prelude.{◌≡◌, true, ◌≤◌, length};
-ghost use Rattle.columns.specs.Loans.{entry};
 ghost use Rattle.check_ids.specs.Copying.{held_codes};
 ghost use Rattle.check_places.specs.Placing.{most_places, PartsIn, ClassTables};
 
@@ -29,9 +28,9 @@ pub(crate) fn within(
     requires held_value { held ≡ held_codes codes.now }
     requires parts_in { PartsIn kinds.now classes.now lengths.now slot_starts.now slot_ends.now starts.now (length codes.now) }
     requires class_tables { ClassTables ids.now class_ids.now loaders.now dumped.now static_starts.now static_ends.now static_types.now static_values.now }
-    ensures { result ≡ true → most_places (entry ids) (entry kinds) (entry classes) (entry lengths)
-        (entry class_ids) (entry loaders) (entry dumped) (entry slot_starts) (entry slot_ends) (entry static_starts) (entry static_ends)
-        (entry static_types) (entry static_values) (entry codes) (entry starts) ≤ room }
+    ensures { result ≡ true → most_places ids.now kinds.now classes.now lengths.now
+        class_ids.now loaders.now dumped.now slot_starts.now slot_ends.now static_starts.now static_ends.now
+        static_types.now static_values.now codes.now starts.now ≤ room }
 {
     if room < held {
         return false;

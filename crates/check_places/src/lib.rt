@@ -1,6 +1,6 @@
 // The number of places of an input, by both routes.
+#![tactic(auto)]
 ghost use Rattle.std.specs.Prelude.{◌≡◌};
-ghost use Rattle.columns.specs.Loans.{entry};
 ghost use Rattle.rules.specs.Needs.{Fits};
 ghost use Rattle.check_ids.specs.Copying.{held_codes};
 ghost use Rattle.check_places.specs.Placing.{PartTables, ClassTables, CodeTables, raw_places, copied_places};
@@ -29,9 +29,9 @@ pub fn raw_places(
 ) -> u64
     requires part_tables { PartTables kinds.now classes.now lengths.now slot_starts.now slot_ends.now }
     requires class_tables { ClassTables ids.now class_ids.now loaders.now dumped.now static_starts.now static_ends.now static_types.now static_values.now }
-    ensures { result ≡ raw_places (entry ids) (entry kinds) (entry classes) (entry lengths)
-        (entry class_ids) (entry loaders) (entry dumped) (entry slot_starts) (entry slot_ends) (entry static_starts) (entry static_ends)
-        (entry static_types) (entry static_values) }
+    ensures { result ≡ raw_places ids.now kinds.now classes.now lengths.now
+        class_ids.now loaders.now dumped.now slot_starts.now slot_ends.now static_starts.now static_ends.now
+        static_types.now static_values.now }
 {
     let parts = check_place_steps::count_parts(kinds, classes, lengths, slot_starts, slot_ends);
     let held = statics::count_classes(
@@ -71,10 +71,10 @@ pub fn copied_places(
 ) -> u64
     requires code_tables { CodeTables kinds.now classes.now lengths.now class_kinds.now slot_starts.now slot_ends.now slot_weak.now codes.now starts.now }
     requires class_tables { ClassTables ids.now class_ids.now loaders.now dumped.now static_starts.now static_ends.now static_types.now static_values.now }
-    ensures { result ≡ copied_places (entry ids) (entry kinds) (entry classes) (entry lengths)
-        (entry class_ids) (entry loaders) (entry dumped) (entry class_kinds)
-        (entry slot_starts) (entry slot_ends) (entry static_starts) (entry static_ends)
-        (entry slot_weak) (entry static_types) (entry static_values) (entry codes) (entry starts) policy }
+    ensures { result ≡ copied_places ids.now kinds.now classes.now lengths.now
+        class_ids.now loaders.now dumped.now class_kinds.now
+        slot_starts.now slot_ends.now static_starts.now static_ends.now
+        slot_weak.now static_types.now static_values.now codes.now starts.now policy }
 {
     let own = codes::count_objects(
         kinds,
@@ -128,10 +128,10 @@ pub fn fit_places(
     requires held_value { held ≡ held_codes codes.now }
     requires code_tables { CodeTables kinds.now classes.now lengths.now class_kinds.now slot_starts.now slot_ends.now slot_weak.now codes.now starts.now }
     requires class_tables { ClassTables ids.now class_ids.now loaders.now dumped.now static_starts.now static_ends.now static_types.now static_values.now }
-    ensures { let n = copied_places (entry ids) (entry kinds) (entry classes) (entry lengths)
-        (entry class_ids) (entry loaders) (entry dumped) (entry class_kinds)
-        (entry slot_starts) (entry slot_ends) (entry static_starts) (entry static_ends)
-        (entry slot_weak) (entry static_types) (entry static_values) (entry codes) (entry starts) policy in
+    ensures { let n = copied_places ids.now kinds.now classes.now lengths.now
+        class_ids.now loaders.now dumped.now class_kinds.now
+        slot_starts.now slot_ends.now static_starts.now static_ends.now
+        slot_weak.now static_types.now static_values.now codes.now starts.now policy in
         Fits room n result }
 {
     if fit::within(

@@ -2,7 +2,6 @@
 ghost use Rattle.std.specs.Prelude.{◌≡◌, ◌-◌, ◌≤◌, ◌<◌, length};
 ghost use Rattle.columns.specs.Lists.{one, total};
 ghost use Rattle.columns.specs.Ranks.{Rises};
-ghost use Rattle.columns.specs.Loans.{entry};
 ghost use Rattle.check_places.specs.Placing.{is_held, static_held, one_static, class_places, ClassTables};
 
 use check_tables::found;
@@ -11,7 +10,7 @@ use lookup::Found;
 // 1 for an id that has a place: a call in the place of a branch, so that the walk has one way on.
 fn one_held(ids: &[u64], id: u64, every: bool) -> u64
     requires { Rises ids.now }
-    ensures { result ≡ one (is_held every (entry ids) id) }
+    ensures { result ≡ one (is_held every ids.now id) }
 {
     if every {
         return 1;
@@ -27,7 +26,7 @@ fn one_held(ids: &[u64], id: u64, every: bool) -> u64
 
 fn one_static(ids: &[u64], kind: u8, value: u64, every: bool) -> u64
     requires { Rises ids.now }
-    ensures { result ≡ one (static_held every (entry ids) kind value) }
+    ensures { result ≡ one (static_held every ids.now kind value) }
 {
     if kind == 2 {
         return one_held(ids, value, every);
@@ -48,7 +47,7 @@ fn count_statics(
     requires static_values_len { length static_values.now ≡ length static_types.now }
     requires from_le_to { from ≤ to }
     requires to_in_bounds { to ≤ length static_types.now }
-    ensures { result ≡ total (one_static every (entry ids) (entry static_types) (entry static_values) from) (to - from) }
+    ensures { result ≡ total (one_static every ids.now static_types.now static_values.now from) (to - from) }
 {
     let mut sum: u64 = 0;
     let mut i = from;
@@ -74,8 +73,8 @@ fn class_places(
 ) -> u64
     requires class_tables { ClassTables ids.now class_ids.now loaders.now dumped.now static_starts.now static_ends.now static_types.now static_values.now }
     requires class_in_bounds { class < length class_ids.now }
-    ensures value { result ≡ class_places every (entry ids) (entry class_ids) (entry loaders) (entry dumped) (entry static_starts) (entry static_ends)
-        (entry static_types) (entry static_values) class }
+    ensures value { result ≡ class_places every ids.now class_ids.now loaders.now dumped.now static_starts.now static_ends.now
+        static_types.now static_values.now class }
     ensures upper_bound { result ≤ 4294967296 }
 {
     if found::place_for(ids, class_ids[class], dumped[class]) < ids.len() {
@@ -100,8 +99,8 @@ pub(crate) fn count_classes(
     every: bool,
 ) -> u64
     requires { ClassTables ids.now class_ids.now loaders.now dumped.now static_starts.now static_ends.now static_types.now static_values.now }
-    ensures value { result ≡ total (class_places every (entry ids) (entry class_ids) (entry loaders) (entry dumped) (entry static_starts) (entry static_ends)
-        (entry static_types) (entry static_values)) (length (entry class_ids)) }
+    ensures value { result ≡ total (class_places every ids.now class_ids.now loaders.now dumped.now static_starts.now static_ends.now
+        static_types.now static_values.now) (length class_ids.now) }
     ensures upper_bound { result ≤ 288230376151711744 }
 {
     let mut sum: u64 = 0;

@@ -1,7 +1,6 @@
 // The check of the classes, without the causes about found objects.
 ghost use Rattle.std.specs.Prelude.{◌≡◌, ◌-◌, ◌≤◌, length};
 ghost use Rattle.columns.specs.Lists.{any, first_place};
-ghost use Rattle.columns.specs.Loans.{entry};
 ghost use Rattle.rules.specs.Verdict.{bad_class};
 ghost use Rattle.check_tables.specs.Reads.{row_fault, slot_fault, static_fault, static_fault_at, schema_columns, Tables};
 
@@ -81,7 +80,7 @@ fn statics_fault(
     to: usize,
 ) -> bool
     requires { (from ≤ to) × (to ≤ length static_names.now) × (length static_types.now ≡ length static_names.now) }
-    ensures { result ≡ any (static_fault_at (entry static_names) (entry static_types) names from) (to - from) }
+    ensures { result ≡ any (static_fault_at static_names.now static_types.now names from) (to - from) }
 {
     let mut i = from;
     while i < to {
@@ -110,9 +109,9 @@ pub fn first_class(
 ) -> usize
     requires { Tables dumped.now class_kinds.now slot_starts.now slot_ends.now static_starts.now static_ends.now
         slot_offsets.now slot_labels.now slot_weak.now static_names.now static_types.now }
-    ensures { result ≡ first_place (bad_class (schema_columns (entry dumped) (entry class_kinds)
-        (entry slot_starts) (entry slot_ends) (entry static_starts) (entry static_ends)
-        (entry slot_offsets) (entry slot_labels) (entry slot_weak) (entry static_names) (entry static_types) names)) (length (entry dumped)) }
+    ensures { result ≡ first_place (bad_class (schema_columns dumped.now class_kinds.now
+        slot_starts.now slot_ends.now static_starts.now static_ends.now
+        slot_offsets.now slot_labels.now slot_weak.now static_names.now static_types.now names)) (length dumped.now) }
 {
     let mut class = 0;
     'check: loop {

@@ -1,6 +1,6 @@
 // The checks of lengths: LENGTHS and LIMIT.
 ghost use Rattle.std.specs.Prelude.{◌≡◌, [], ◌∷◌, length};
-ghost use Rattle.columns.specs.Loans.{entry};
+ghost use Rattle.columns.specs.Loans.{now_of};
 ghost use Rattle.rules.specs.Verdict.{differs, schema_lengths, bad_size, limits};
 ghost use Rattle.rules.specs.Tables.{class_table, slot_table, static_table, schema_of};
 ghost use Rattle.check_tables.specs.Reads.{size_only};
@@ -58,8 +58,8 @@ pub fn schema_lengths(
     static_types: &[u8],
     static_values: &[u64],
 ) -> bool
-    ensures { let schema = schema_of (class_table entry class_ids loaders dumped class_kinds slot_starts slot_ends static_starts static_ends)
-        (slot_table entry slot_offsets slot_labels slot_weak) (static_table entry static_names static_types static_values) 0 in
+    ensures { let schema = schema_of (class_table now_of class_ids loaders dumped class_kinds slot_starts slot_ends static_starts static_ends)
+        (slot_table now_of slot_offsets slot_labels slot_weak) (static_table now_of static_names static_types static_values) 0 in
         result ≡ schema_lengths schema }
 {
     let n = class_ids.len();

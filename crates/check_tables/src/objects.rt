@@ -1,7 +1,6 @@
 // Checks of the objects and of the roots, one by one.
 ghost use Rattle.std.specs.Prelude.{◌≡◌, length};
 ghost use Rattle.columns.specs.Lists.{first_place};
-ghost use Rattle.columns.specs.Loans.{entry};
 ghost use Rattle.rules.specs.Verdict.{bad_object, bad_root};
 ghost use Rattle.check_tables.specs.Reads.{object_columns, object_fault};
 
@@ -41,7 +40,7 @@ pub fn first_object(
     requires kinds_len { length kinds.now ≡ length ids.now }
     requires classes_len { length classes.now ≡ length ids.now }
     requires lengths_len { length lengths.now ≡ length ids.now }
-    ensures { result ≡ first_place (bad_object (object_columns (entry ids) (entry kinds) (entry classes) (entry lengths) (entry class_ids))) (length (entry ids)) }
+    ensures { result ≡ first_place (bad_object (object_columns ids.now kinds.now classes.now lengths.now class_ids.now)) (length ids.now) }
 {
     let mut before = 0;
     let mut o = 0;
@@ -65,7 +64,7 @@ pub fn first_object(
 
 // The first root that is no object, or the number of roots.
 pub fn first_root(roots: &[u32], objects: usize) -> usize
-    ensures { result ≡ first_place (bad_root objects (entry roots)) (length (entry roots)) }
+    ensures { result ≡ first_place (bad_root objects roots.now) (length roots.now) }
 {
     let mut i = 0;
     while i < roots.len() {

@@ -3,7 +3,7 @@ ghost use Rattle.std.specs.Prelude.{◌≡◌, [], ◌∷◌, length};
 ghost use Rattle.columns.specs.Lists.{first_place};
 ghost use Rattle.columns.specs.Columns.{zeros};
 ghost use Rattle.columns.specs.Ranks.{Rises};
-ghost use Rattle.columns.specs.Loans.{entry, exit};
+ghost use Rattle.columns.specs.Loans.{now_of};
 ghost use Rattle.rules.specs.Tables.{object_table, class_table, slot_table, static_table, copied_route, schema_of, input_of};
 ghost use Rattle.rules.specs.Verdict.{bad_lengths, bad_dumped, bad_find};
 ghost use Rattle.check_tables.specs.Reads.{Tables, no_policy};
@@ -37,9 +37,9 @@ pub fn copied_lengths(
     escape_ids: &[u64],
     starts: &[u32],
 ) -> bool
-    ensures { let schema = schema_of (class_table entry class_ids loaders dumped class_kinds slot_starts slot_ends static_starts static_ends)
-        (slot_table entry slot_offsets slot_labels slot_weak) (static_table entry static_names static_types static_values) 0 in
-        let input = input_of (object_table entry ids kinds classes lengths) schema (copied_route entry codes escape_places escape_ids 0 starts) [] no_policy in
+    ensures { let schema = schema_of (class_table now_of class_ids loaders dumped class_kinds slot_starts slot_ends static_starts static_ends)
+        (slot_table now_of slot_offsets slot_labels slot_weak) (static_table now_of static_names static_types static_values) 0 in
+        let input = input_of (object_table now_of ids kinds classes lengths) schema (copied_route now_of codes escape_places escape_ids 0 starts) [] no_policy in
         result ≡ bad_lengths input }
 {
     if lengths::differ3(ids.len(), kinds.len(), classes.len(), lengths.len()) {
@@ -95,9 +95,9 @@ pub fn raw_lengths(
     starts: &[u64],
     bodies: &[u32],
 ) -> bool
-    ensures { let schema = schema_of (class_table entry class_ids loaders dumped class_kinds slot_starts slot_ends static_starts static_ends)
-        (slot_table entry slot_offsets slot_labels slot_weak) (static_table entry static_names static_types static_values) 0 in
-        let input = input_of (object_table entry ids kinds classes lengths) schema (bodies_only (entry starts) (entry bodies)) [] no_policy in
+    ensures { let schema = schema_of (class_table now_of class_ids loaders dumped class_kinds slot_starts slot_ends static_starts static_ends)
+        (slot_table now_of slot_offsets slot_labels slot_weak) (static_table now_of static_names static_types static_values) 0 in
+        let input = input_of (object_table now_of ids kinds classes lengths) schema (bodies_only starts.now bodies.now) [] no_policy in
         result ≡ bad_lengths input }
 {
     if lengths::differ3(ids.len(), kinds.len(), classes.len(), lengths.len()) {
@@ -152,12 +152,12 @@ pub fn first_dumped(
     requires working_value { working.old ≡ zeros (length working.old) }
     requires tables { Tables dumped.now class_kinds.now slot_starts.now slot_ends.now static_starts.now static_ends.now
         slot_offsets.now slot_labels.now slot_weak.now static_names.now static_types.now }
-    ensures result_value { let columns = dumped_columns (entry ids) (entry kinds)
-        (entry class_ids) (entry dumped) (entry class_kinds) (entry slot_starts) (entry slot_ends) (entry static_starts) (entry static_ends)
-        (entry slot_offsets) (entry slot_labels) (entry slot_weak) (entry static_names) (entry static_types) names in
-        result ≡ first_place (bad_dumped columns) (length (entry class_ids)) }
-    ensures working_value_2 { let columns = find_columns (entry ids) (entry kinds) (entry class_ids) (entry dumped) in
-        exit working ≡ marks_if columns (first_place (bad_find columns) (length (entry class_ids))) (length (entry working)) }
+    ensures result_value { let columns = dumped_columns ids.now kinds.now
+        class_ids.now dumped.now class_kinds.now slot_starts.now slot_ends.now static_starts.now static_ends.now
+        slot_offsets.now slot_labels.now slot_weak.now static_names.now static_types.now names in
+        result ≡ first_place (bad_dumped columns) (length class_ids.now) }
+    ensures working_value_2 { let columns = find_columns ids.now kinds.now class_ids.now dumped.now in
+        working.new ≡ marks_if columns (first_place (bad_find columns) (length class_ids.now)) (length working.old) }
 {
     let found = found::first_find(ids, kinds, class_ids, dumped, working);
     let class = classes::first_class(

@@ -1,5 +1,6 @@
 // Coding a plain graph's columns: offsets into blocks, labels into codes, with ROOM for buffers 4 to 9 decided in order.
-ghost use Rattle.columns.specs.Loans.{entry, exit};
+#![tactic(auto)]
+ghost use Rattle.columns.specs.Loans.{now_of, old_of, new_of};
 ghost use Rattle.rules.specs.Types.{built_says};
 ghost use Rattle.rules.specs.Tables.{coding_room, coding_left};
 ghost use Rattle.labels.specs.Fields.{name_columns};
@@ -37,10 +38,10 @@ pub fn code_parts(
 ) -> Built
     requires { let named = name_columns (λ x. x.now) slot_starts slot_ends static_starts static_ends slot_labels static_names static_types in
         Where (built_says v) (Ready named classes names offsets.now labels.now) }
-    ensures { let named = name_columns entry slot_starts slot_ends static_starts static_ends slot_labels static_names static_types in
-        let room = coding_room entry bases short long_at long_value fields table escape_at escape_label edge_codes counting ranking in
-        let left = coding_left exit bases short long_at long_value fields table escape_at escape_label edge_codes counting ranking in
-        PartsCoding named classes names (entry offsets) (entry labels) (built_says v) room (built_says result) left }
+    ensures { let named = name_columns now_of slot_starts slot_ends static_starts static_ends slot_labels static_names static_types in
+        let room = coding_room old_of bases short long_at long_value fields table escape_at escape_label edge_codes counting ranking in
+        let left = coding_left new_of bases short long_at long_value fields table escape_at escape_label edge_codes counting ranking in
+        PartsCoding named classes names offsets.now labels.now (built_says v) room (built_says result) left }
 {
     let v1 = code_stages::offsets::offsets_stage(v, offsets, bases, short, long_at, long_value);
     let v2 = code_stages::fields::fields_room(

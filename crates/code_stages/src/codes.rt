@@ -1,6 +1,5 @@
 // The stage of the codes: buffers 7 and 8.
 ghost use Rattle.std.specs.Prelude.{◌≡◌, length, ◌≤◌};
-ghost use Rattle.columns.specs.Loans.{entry, exit};
 ghost use Rattle.rules.specs.Types.{built_says};
 ghost use Rattle.labels.specs.Coding.{escaped_to};
 ghost use Rattle.code_stages.specs.Stages.{Where, CodesReady, CodesCoded};
@@ -12,7 +11,7 @@ use rules::Built;
 // How many of the first n codes are escaped: two bytes an edge.
 fn count_escaped(edge_codes: &[u16], n: usize) -> usize
     requires { n ≤ length edge_codes.now }
-    ensures { result ≡ length (escaped_to (entry edge_codes) n) }
+    ensures { result ≡ length (escaped_to edge_codes.now n) }
 {
     let mut rows = 0;
     let mut e = 0;
@@ -39,9 +38,9 @@ pub fn codes_stage(
     edge_codes: &mut [u16],
 ) -> Built
     requires { Where (built_says v) (CodesReady names table.now offsets.now labels.now) }
-    ensures { CodesCoded (built_says v) names (entry table) (entry offsets) (entry labels)
-        (entry edge_codes) (entry escape_at) (entry escape_label)
-        (built_says result) (exit edge_codes) (exit escape_at) (exit escape_label) }
+    ensures { CodesCoded (built_says v) names table.now offsets.now labels.now
+        edge_codes.old escape_at.old escape_label.old
+        (built_says result) edge_codes.new escape_at.new escape_label.new }
 {
     let Built::Done(c) = v else {
         return v;

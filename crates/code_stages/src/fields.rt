@@ -1,7 +1,7 @@
 // The stages of the fields: buffer 6, and the fields and the code table written.
 ghost use Rattle.std.specs.Prelude.{◌≡◌, length, take, ◌+◌, ◌≤◌};
 ghost use Rattle.columns.specs.Columns.{over};
-ghost use Rattle.columns.specs.Loans.{entry, exit};
+ghost use Rattle.columns.specs.Loans.{now_of};
 ghost use Rattle.rules.specs.Labels.{code_table};
 ghost use Rattle.labels.specs.Coding.{Room};
 ghost use Rattle.rules.specs.Types.{built_says};
@@ -29,8 +29,8 @@ pub fn fields_room(
 ) -> Built
     requires { let named = name_columns (λ x. x.now) slot_starts slot_ends static_starts static_ends slot_labels static_names static_types in
         Where (built_says v) (NamesReady named classes names) }
-    ensures { let named = name_columns entry slot_starts slot_ends static_starts static_ends slot_labels static_names static_types in
-        built_says result ≡ fields_says (built_says v) (length (fields_by named classes names (entry labels))) names fields (length (entry table)) }
+    ensures { let named = name_columns now_of slot_starts slot_ends static_starts static_ends slot_labels static_names static_types in
+        built_says result ≡ fields_says (built_says v) (length (fields_by named classes names labels.now)) names fields (length table.old) }
 {
     let Built::Done(c) = v else {
         return v;
@@ -61,7 +61,7 @@ pub fn fields_room(
 pub(crate) fn write_table(fields: &[u32], n: usize, names: usize, table: &mut [u16])
     requires room { Room names table.old × (n ≤ length fields.now) × (n ≤ 32767) }
     requires named { Named names (take n fields.now) }
-    ensures { exit table ≡ over (code_table names (take n (entry fields))) (entry table) }
+    ensures { table.new ≡ over (code_table names (take n fields.now)) table.old }
 {
     label_fields::fields::write_table(&fields[0..n], names, table);
 }
@@ -87,8 +87,8 @@ pub fn write_fields(
     requires { let named = name_columns (λ x. x.now) slot_starts slot_ends static_starts static_ends slot_labels static_names static_types in
         Where (built_says v)
         (RankReady named classes names labels.now (length fields.old) (length table.old) (length counting.old) (length ranking.old)) }
-    ensures { let named = name_columns entry slot_starts slot_ends static_starts static_ends slot_labels static_names static_types in
-        Where (built_says v) (FieldsWritten names (fields_by named classes names (entry labels)) (exit fields) (exit table)) }
+    ensures { let named = name_columns now_of slot_starts slot_ends static_starts static_ends slot_labels static_names static_types in
+        Where (built_says v) (FieldsWritten names (fields_by named classes names labels.now) fields.new table.new) }
 {
     if rules::accepted(v) {
         let n = label_fields::write_fields(

@@ -1,6 +1,5 @@
 // The stage of the offsets: buffers 4 and 5.
 ghost use Rattle.std.specs.Prelude.{length};
-ghost use Rattle.columns.specs.Loans.{entry, exit};
 ghost use Rattle.rules.specs.Types.{built_says};
 ghost use Rattle.code_stages.specs.Stages.{Where, OffsetsReady, OffsetsCoded};
 
@@ -16,9 +15,9 @@ pub fn offsets_stage(
     long_value: &mut [u64],
 ) -> Built
     requires { Where (built_says v) (OffsetsReady offsets.now) }
-    ensures { OffsetsCoded (built_says v) (entry offsets)
-        (length (entry bases)) (length (entry short)) (length (entry long_at)) (length (entry long_value))
-        (built_says result) (exit bases) (exit short) (exit long_at) (exit long_value) }
+    ensures { OffsetsCoded (built_says v) offsets.now
+        (length bases.old) (length short.old) (length long_at.old) (length long_value.old)
+        (built_says result) bases.new short.new long_at.new long_value.new }
 {
     let Built::Done(c) = v else {
         return v;

@@ -1,5 +1,5 @@
 // The end: every column cleared behind its used part, and the work space whole; after a refusal all of them.
-ghost use Rattle.columns.specs.Loans.{entry, exit};
+ghost use Rattle.columns.specs.Loans.{old_of, new_of};
 ghost use Rattle.rules.specs.Types.{built_says};
 ghost use Rattle.rules.specs.Tables.{coding_left};
 ghost use Rattle.std.specs.Prelude.{◌≤◌};
@@ -26,8 +26,8 @@ pub fn settle(
     ranking: &mut [u64],
 )
     requires { Where (built_says b) (names ≤ 16777216) }
-    ensures { let before = coding_left entry bases short long_at long_value fields table escape_at escape_label edge_codes counting ranking in
-        let left = coding_left exit bases short long_at long_value fields table escape_at escape_label edge_codes counting ranking in
+    ensures { let before = coding_left old_of bases short long_at long_value fields table escape_at escape_label edge_codes counting ranking in
+        let left = coding_left new_of bases short long_at long_value fields table escape_at escape_label edge_codes counting ranking in
         CodingSettled (built_says b) names edges before left }
 {
     columns::zero_u64(bases, answers::used_to(b, bases.len()));

@@ -1,6 +1,6 @@
 // Where buffer 9 is short: 7 and 8 come before it, and the escapes are counted without ranking.
 ghost use Rattle.std.specs.Prelude.{◌≡◌, length};
-ghost use Rattle.columns.specs.Loans.{entry};
+ghost use Rattle.columns.specs.Loans.{now_of};
 ghost use Rattle.rules.specs.Types.{built_says};
 ghost use Rattle.labels.specs.Fields.{name_columns};
 ghost use Rattle.code_stages.specs.Stages.{Where, SpaceReady, fields_by, escapes_of, space_says};
@@ -26,8 +26,8 @@ fn escapes_without(
 ) -> usize
     requires { let named = name_columns (λ x. x.now) slot_starts slot_ends static_starts static_ends slot_labels static_names static_types in
         SpaceReady named classes names offsets.now labels.now (length fields.old) (length table.old) }
-    ensures { let named = name_columns entry slot_starts slot_ends static_starts static_ends slot_labels static_names static_types in
-        result ≡ escapes_of (fields_by named classes names (entry labels)) (entry offsets) (entry labels) }
+    ensures { let named = name_columns now_of slot_starts slot_ends static_starts static_ends slot_labels static_names static_types in
+        result ≡ escapes_of (fields_by named classes names labels.now) offsets.now labels.now }
 {
     columns::zero_u16(table, 0);
     label_fields::fields::mark_named(
@@ -75,9 +75,9 @@ pub fn space_room(
 ) -> Built
     requires { let named = name_columns (λ x. x.now) slot_starts slot_ends static_starts static_ends slot_labels static_names static_types in
         Where (built_says v) (SpaceReady named classes names offsets.now labels.now (length fields.old) (length table.old)) }
-    ensures { let named = name_columns entry slot_starts slot_ends static_starts static_ends slot_labels static_names static_types in
-        let escapes = escapes_of (fields_by named classes names (entry labels)) (entry offsets) (entry labels) in
-        built_says result ≡ space_says (built_says v) escapes (length (entry labels)) names escape_at escape_label edge_codes counting ranking }
+    ensures { let named = name_columns now_of slot_starts slot_ends static_starts static_ends slot_labels static_names static_types in
+        let escapes = escapes_of (fields_by named classes names labels.now) offsets.now labels.now in
+        built_says result ≡ space_says (built_says v) escapes (length labels.now) names escape_at escape_label edge_codes counting ranking }
 {
     let Built::Done(_) = v else {
         return v;

@@ -1,4 +1,6 @@
 // Columns of plain numbers: zeros from a place on, and the place of a number in a column that rises.
+#![tactic(auto)]
+
 ghost use Rattle.std.specs.Prelude.{◌≡◌, ◌+◌, ◌≤◌, ◌<◌, ◌-◌, ◌/◌, length};
 ghost use Rattle.columns.specs.Columns.{cleared};
 ghost use Rattle.columns.specs.Ranks.{Ranked, front, halve, bisect};

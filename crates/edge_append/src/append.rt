@@ -1,6 +1,5 @@
 // One reference appended: its id is looked up once, and what becomes of it is written where it finally stands, so that no hole is ever made.
 ghost use Rattle.std.specs.Prelude.{◌≡◌, [], ◌∷◌, ◌^◌, ◌<◌, length};
-ghost use Rattle.columns.specs.Loans.{entry, exit};
 ghost use Rattle.edge_append.specs.Append.{ref_of, EdgeRoom, Appended};
 ghost use Rattle.edge_append.specs.Held.{slot_with, element_with};
 
@@ -39,7 +38,7 @@ pub fn append(
     weak_to: &mut [u32],
 ) -> Pass
     requires { EdgeRoom ids.now (ref_of kind label kept id ∷ []) s (length targets.old) (length labels.old) (length weak_to.old) }
-    ensures { Appended (entry ids) (ref_of kind label kept id ∷ []) s result (entry targets) (entry labels) (entry weak_to) (exit targets) (exit labels) (exit weak_to) }
+    ensures { Appended ids.now (ref_of kind label kept id ∷ []) s result targets.old labels.old weak_to.old targets.new labels.new weak_to.new }
 {
     if id == 0 {
         return s;
@@ -82,8 +81,8 @@ pub fn append_slot(
 ) -> Pass
     requires place_in_bounds { (place < length slot_labels.now) × (place < length slot_weak.now) }
     requires edge_room { EdgeRoom ids.now (slot_with slot_labels.now slot_weak.now keeps place id ∷ []) s (length targets.old) (length labels.old) (length weak_to.old) }
-    ensures { Appended (entry ids) (slot_with (entry slot_labels) (entry slot_weak) keeps place id ∷ []) s result (entry targets) (entry labels)
-        (entry weak_to) (exit targets) (exit labels) (exit weak_to) }
+    ensures { Appended ids.now (slot_with slot_labels.now slot_weak.now keeps place id ∷ []) s result targets.old labels.old
+        weak_to.old targets.new labels.new weak_to.new }
 {
     let kept = is_kept(slot_weak[place], keeps);
     append(
@@ -115,7 +114,7 @@ pub fn append_element(
 ) -> Pass
     requires k_bound { k < 2 ^ 31 }
     requires edge_room { EdgeRoom ids.now (element_with k id ∷ []) s (length targets.old) (length labels.old) (length weak_to.old) }
-    ensures { Appended (entry ids) (element_with k id ∷ []) s result (entry targets) (entry labels) (entry weak_to) (exit targets) (exit labels) (exit weak_to) }
+    ensures { Appended ids.now (element_with k id ∷ []) s result targets.old labels.old weak_to.old targets.new labels.new weak_to.new }
 {
     let label = rules::Label::element(narrow(k));
     append(

@@ -1,7 +1,6 @@
 // One object: its references in order, then the run of its weak pairs.
 ghost use Rattle.std.specs.Prelude.{◌≡◌, ◌+◌, ◌*◌, ◌^◌, ◌≤◌, ◌<◌, length};
 ghost use Rattle.columns.specs.Ranks.{Rises};
-ghost use Rattle.columns.specs.Loans.{entry, exit};
 ghost use Rattle.index.specs.Copied.{ids_of};
 ghost use Rattle.edge_append.specs.Held.{SlotsIn, StaticsIn};
 ghost use Rattle.edge_append.specs.Raw.{BodyIn};
@@ -57,14 +56,14 @@ pub fn object_copied(
         policy kind class count loaders.now
         static_starts.now static_ends.now static_names.now static_types.now static_values.now mark in
         ObjectReady ids.now parts from (length targets.old) (length labels.old) (length weak_from.old) (length weak_to.old) account.old }
-    ensures { let held = ids_of (entry codes) (entry escape_places) (entry escape_ids) base in
+    ensures { let held = ids_of codes.now escape_places.now escape_ids.now base in
         let parts = copied_parts held start
-        (entry class_kinds) (entry slot_starts) (entry slot_ends) (entry slot_labels) (entry slot_weak)
-        policy kind class count (entry loaders)
-        (entry static_starts) (entry static_ends) (entry static_names) (entry static_types) (entry static_values) mark in
-        Done (entry ids) parts object from result
-        (entry targets) (entry labels) (entry weak_from) (entry weak_to) (entry account)
-        (exit targets) (exit labels) (exit weak_from) (exit weak_to) (exit account) }
+        class_kinds.now slot_starts.now slot_ends.now slot_labels.now slot_weak.now
+        policy kind class count loaders.now
+        static_starts.now static_ends.now static_names.now static_types.now static_values.now mark in
+        Done ids.now parts object from result
+        targets.old labels.old weak_from.old weak_to.old account.old
+        targets.new labels.new weak_from.new weak_to.new account.new }
 {
     let s1 = copied::object_slots(
         from,
@@ -181,13 +180,13 @@ pub fn object_raw(
         policy kind class count loaders.now
         static_starts.now static_ends.now static_names.now static_types.now static_values.now mark in
         ObjectReady ids.now parts from (length targets.old) (length labels.old) (length weak_from.old) (length weak_to.old) account.old }
-    ensures { let parts = raw_parts (entry bytes) size start body
-        (entry class_kinds) (entry slot_starts) (entry slot_ends) (entry slot_offsets) (entry slot_labels) (entry slot_weak)
-        policy kind class count (entry loaders)
-        (entry static_starts) (entry static_ends) (entry static_names) (entry static_types) (entry static_values) mark in
-        Done (entry ids) parts object from result
-        (entry targets) (entry labels) (entry weak_from) (entry weak_to) (entry account)
-        (exit targets) (exit labels) (exit weak_from) (exit weak_to) (exit account) }
+    ensures { let parts = raw_parts bytes.now size start body
+        class_kinds.now slot_starts.now slot_ends.now slot_offsets.now slot_labels.now slot_weak.now
+        policy kind class count loaders.now
+        static_starts.now static_ends.now static_names.now static_types.now static_values.now mark in
+        Done ids.now parts object from result
+        targets.old labels.old weak_from.old weak_to.old account.old
+        targets.new labels.new weak_from.new weak_to.new account.new }
 {
     let s1 = raw::object_slots(
         from,

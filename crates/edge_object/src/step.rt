@@ -2,7 +2,6 @@
 ghost use Rattle.std.specs.Prelude.{◌≡◌, ◌+◌, ◌*◌, ◌^◌, ◌≤◌, ◌<◌, length, set};
 ghost use Rattle.columns.specs.Lists.{◌!◌};
 ghost use Rattle.columns.specs.Ranks.{Rises};
-ghost use Rattle.columns.specs.Loans.{entry, exit};
 ghost use Rattle.index.specs.Copied.{ids_of};
 ghost use Rattle.edge_append.specs.Held.{SlotsIn, StaticsIn};
 ghost use Rattle.edge_append.specs.Raw.{BodyIn};
@@ -61,15 +60,15 @@ pub fn step_copied(
         policy (kinds.now ! o) (classes.now ! o) (lengths.now ! o) loaders.now
         static_starts.now static_ends.now static_names.now static_types.now static_values.now (working.old ! (o + 1)) in
         ObjectReady ids.now parts from (length targets.old) (length labels.old) (length weak_from.old) (length weak_to.old) account.old }
-    ensures fact_2 { let held = ids_of (entry codes) (entry escape_places) (entry escape_ids) base in
-        let parts = copied_parts held (entry starts ! o)
-        (entry class_kinds) (entry slot_starts) (entry slot_ends) (entry slot_labels) (entry slot_weak)
-        policy (entry kinds ! o) (entry classes ! o) (entry lengths ! o) (entry loaders)
-        (entry static_starts) (entry static_ends) (entry static_names) (entry static_types) (entry static_values) (entry working ! (o + 1)) in
-        Done (entry ids) parts o from result
-        (entry targets) (entry labels) (entry weak_from) (entry weak_to) (entry account)
-        (exit targets) (exit labels) (exit weak_from) (exit weak_to) (exit account) }
-    ensures working_value { exit working ≡ set (entry working) (o + 1) result.edges }
+    ensures fact_2 { let held = ids_of codes.now escape_places.now escape_ids.now base in
+        let parts = copied_parts held (starts.now ! o)
+        class_kinds.now slot_starts.now slot_ends.now slot_labels.now slot_weak.now
+        policy (kinds.now ! o) (classes.now ! o) (lengths.now ! o) loaders.now
+        static_starts.now static_ends.now static_names.now static_types.now static_values.now (working.old ! (o + 1)) in
+        Done ids.now parts o from result
+        targets.old labels.old weak_from.old weak_to.old account.old
+        targets.new labels.new weak_from.new weak_to.new account.new }
+    ensures working_value { working.new ≡ set working.old (o + 1) result.edges }
 {
     let mark = working[o + 1] as usize;
     let kind = kinds[o];
@@ -163,14 +162,14 @@ pub fn step_raw(
         policy (kinds.now ! o) (classes.now ! o) (lengths.now ! o) loaders.now
         static_starts.now static_ends.now static_names.now static_types.now static_values.now (working.old ! (o + 1)) in
         ObjectReady ids.now parts from (length targets.old) (length labels.old) (length weak_from.old) (length weak_to.old) account.old }
-    ensures fact_2 { let parts = raw_parts (entry bytes) size (entry starts ! o) (entry bodies ! o)
-        (entry class_kinds) (entry slot_starts) (entry slot_ends) (entry slot_offsets) (entry slot_labels) (entry slot_weak)
-        policy (entry kinds ! o) (entry classes ! o) (entry lengths ! o) (entry loaders)
-        (entry static_starts) (entry static_ends) (entry static_names) (entry static_types) (entry static_values) (entry working ! (o + 1)) in
-        Done (entry ids) parts o from result
-        (entry targets) (entry labels) (entry weak_from) (entry weak_to) (entry account)
-        (exit targets) (exit labels) (exit weak_from) (exit weak_to) (exit account) }
-    ensures working_value { exit working ≡ set (entry working) (o + 1) result.edges }
+    ensures fact_2 { let parts = raw_parts bytes.now size (starts.now ! o) (bodies.now ! o)
+        class_kinds.now slot_starts.now slot_ends.now slot_offsets.now slot_labels.now slot_weak.now
+        policy (kinds.now ! o) (classes.now ! o) (lengths.now ! o) loaders.now
+        static_starts.now static_ends.now static_names.now static_types.now static_values.now (working.old ! (o + 1)) in
+        Done ids.now parts o from result
+        targets.old labels.old weak_from.old weak_to.old account.old
+        targets.new labels.new weak_from.new weak_to.new account.new }
+    ensures working_value { working.new ≡ set working.old (o + 1) result.edges }
 {
     let mark = working[o + 1] as usize;
     let kind = kinds[o];

@@ -3,7 +3,7 @@ ghost use Rattle.std.specs.Prelude.{◌≡◌, true, length};
 ghost use Rattle.columns.specs.Columns.{accepts};
 ghost use Rattle.rules.specs.Types.{built_says};
 ghost use Rattle.edge_append.specs.Account.{AccountIn};
-ghost use Rattle.columns.specs.Loans.{entry, exit};
+ghost use Rattle.columns.specs.Loans.{now_of};
 ghost use Rattle.rules.specs.Tables.{object_table, slot_table, static_table, raw_route};
 ghost use Rattle.edge_pass.specs.Tables.{pass_classes, pass_input, Passable};
 ghost use Rattle.edge_pass.specs.Range.{parts_from};
@@ -55,13 +55,13 @@ pub fn walk_raw(
         (raw_route (λ x. x.now) bytes size starts bodies) policy in
         Passable input working.old first count from (length targets.old) (length labels.old) (length weak_from.old) (length weak_to.old) }
     requires account_in { AccountIn account.old from }
-    ensures { let input = pass_input (object_table entry ids kinds classes lengths)
-        (pass_classes entry loaders class_kinds slot_starts slot_ends static_starts static_ends)
-        (slot_table entry slot_offsets slot_labels slot_weak) (static_table entry static_names static_types static_values)
-        (raw_route entry bytes size starts bodies) policy in
-        Walked (entry ids) (parts_from input (entry working) first) first count from result
-        (entry targets) (entry labels) (entry weak_from) (entry weak_to) (entry working) (entry account)
-        (exit targets) (exit labels) (exit weak_from) (exit weak_to) (exit working) (exit account) }
+    ensures { let input = pass_input (object_table now_of ids kinds classes lengths)
+        (pass_classes now_of loaders class_kinds slot_starts slot_ends static_starts static_ends)
+        (slot_table now_of slot_offsets slot_labels slot_weak) (static_table now_of static_names static_types static_values)
+        (raw_route now_of bytes size starts bodies) policy in
+        Walked ids.now (parts_from input working.old first) first count from result
+        targets.old labels.old weak_from.old weak_to.old working.old account.old
+        targets.new labels.new weak_from.new weak_to.new working.new account.new }
 {
     let mut s = from;
     let mut k = 0;
@@ -142,12 +142,12 @@ pub fn edges_raw(
         (raw_route (λ x. x.now) bytes size starts bodies) policy in
         (accepts (built_says v) ≡ true →
         HandedFrom input (length targets.old) (length labels.old) (length weak_from.old) (length weak_to.old) working.old account.old) }
-    ensures { let input = pass_input (object_table entry ids kinds classes lengths)
-        (pass_classes entry loaders class_kinds slot_starts slot_ends static_starts static_ends)
-        (slot_table entry slot_offsets slot_labels slot_weak) (static_table entry static_names static_types static_values)
-        (raw_route entry bytes size starts bodies) policy in
-        EdgedFrom input v result (entry targets) (entry labels) (entry weak_from) (entry weak_to) (entry working) (entry account)
-        (exit targets) (exit labels) (exit weak_from) (exit weak_to) (exit working) (exit account) }
+    ensures { let input = pass_input (object_table now_of ids kinds classes lengths)
+        (pass_classes now_of loaders class_kinds slot_starts slot_ends static_starts static_ends)
+        (slot_table now_of slot_offsets slot_labels slot_weak) (static_table now_of static_names static_types static_values)
+        (raw_route now_of bytes size starts bodies) policy in
+        EdgedFrom input v result targets.old labels.old weak_from.old weak_to.old working.old account.old
+        targets.new labels.new weak_from.new weak_to.new working.new account.new }
 {
     if !rules::accepted(v) {
         return v;

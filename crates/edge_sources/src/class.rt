@@ -1,7 +1,6 @@
 // The references of a class: "its object statics in order, label the name, then the loader if found."
 ghost use Rattle.std.specs.Prelude.{◌+◌, ◌≤◌, ◌<◌, length};
 ghost use Rattle.columns.specs.Lists.{collect};
-ghost use Rattle.columns.specs.Loans.{entry, exit};
 ghost use Rattle.edge_append.specs.Append.{EdgeRoom, Appended};
 ghost use Rattle.edge_append.specs.Held.{static_ref_at, static_from, StaticsIn, statics_at, loader_at};
 
@@ -27,8 +26,8 @@ fn append_static(
     requires place_in_bounds { (place < length static_names.now) × (place < length static_types.now) × (place < length static_values.now) }
     requires edge_room { EdgeRoom ids.now (static_ref_at static_names.now static_types.now static_values.now place) s
         (length targets.old) (length labels.old) (length weak_to.old) }
-    ensures { Appended (entry ids) (static_ref_at (entry static_names) (entry static_types) (entry static_values) place) s result (entry targets)
-        (entry labels) (entry weak_to) (exit targets) (exit labels) (exit weak_to) }
+    ensures { Appended ids.now (static_ref_at static_names.now static_types.now static_values.now place) s result targets.old
+        labels.old weak_to.old targets.new labels.new weak_to.new }
 {
     if static_types[place] != OBJECT {
         return s;
@@ -66,8 +65,8 @@ fn statics(
     requires count_in_bounds { (first + count ≤ length static_names.now) × (first + count ≤ length static_types.now) × (first + count ≤ length static_values.now) }
     requires edge_room { EdgeRoom ids.now (collect (static_from static_names.now static_types.now static_values.now first) count) from (length targets.old)
         (length labels.old) (length weak_to.old) }
-    ensures { Appended (entry ids) (collect (static_from (entry static_names) (entry static_types) (entry static_values) first) count) from result
-        (entry targets) (entry labels) (entry weak_to) (exit targets) (exit labels) (exit weak_to) }
+    ensures { Appended ids.now (collect (static_from static_names.now static_types.now static_values.now first) count) from result
+        targets.old labels.old weak_to.old targets.new labels.new weak_to.new }
 {
     let mut s = from;
     let mut k = 0;
@@ -109,8 +108,8 @@ pub fn found_statics(
     requires statics_in { StaticsIn static_starts.now static_ends.now (length static_names.now) (length static_types.now) (length static_values.now) mark }
     requires edge_room { EdgeRoom ids.now (statics_at static_starts.now static_ends.now static_names.now static_types.now static_values.now mark) s
         (length targets.old) (length labels.old) (length weak_to.old) }
-    ensures { Appended (entry ids) (statics_at (entry static_starts) (entry static_ends) (entry static_names) (entry static_types)
-        (entry static_values) mark) s result (entry targets) (entry labels) (entry weak_to) (exit targets) (exit labels) (exit weak_to) }
+    ensures { Appended ids.now (statics_at static_starts.now static_ends.now static_names.now static_types.now
+        static_values.now mark) s result targets.old labels.old weak_to.old targets.new labels.new weak_to.new }
 {
     if mark == 0 {
         return s;
@@ -147,7 +146,7 @@ pub fn found_loader(
 ) -> Pass
     requires mark_in_bounds { 0 < mark → mark ≤ length loaders.now }
     requires edge_room { EdgeRoom ids.now (loader_at loaders.now mark) s (length targets.old) (length labels.old) (length weak_to.old) }
-    ensures { Appended (entry ids) (loader_at (entry loaders) mark) s result (entry targets) (entry labels) (entry weak_to) (exit targets) (exit labels) (exit weak_to) }
+    ensures { Appended ids.now (loader_at loaders.now mark) s result targets.old labels.old weak_to.old targets.new labels.new weak_to.new }
 {
     if mark == 0 {
         return s;

@@ -2,7 +2,6 @@
 ghost use Rattle.std.specs.Prelude.{◌≡◌, ◌+◌, ◌^◌, ◌≤◌, ◌<◌, length};
 ghost use Rattle.columns.specs.Lists.{tab};
 ghost use Rattle.columns.specs.Ranks.{Rises};
-ghost use Rattle.columns.specs.Loans.{entry, exit};
 ghost use Rattle.index.specs.Copied.{ids_of};
 ghost use Rattle.rules.specs.Input.{copied_id};
 ghost use Rattle.edge_append.specs.Append.{EdgeRoom, Appended};
@@ -19,7 +18,7 @@ pub fn id_held(
     base: u64,
     place: usize,
 ) -> u64
-    ensures { result ≡ copied_id (ids_of (entry codes) (entry escape_places) (entry escape_ids) base) place }
+    ensures { result ≡ copied_id (ids_of codes.now escape_places.now escape_ids.now base) place }
 {
     match index::id_at(codes, escape_places, escape_ids, base, place) {
         index::CopiedId::Id(id) => id,
@@ -53,8 +52,8 @@ fn slots(
     requires count_in_bounds { (first + count ≤ length slot_labels.now) × (first + count ≤ length slot_weak.now) × (start + count < 2 ^ 64) }
     requires edge_room { EdgeRoom ids.now (tab (copied_slot (ids_of codes.now escape_places.now escape_ids.now base) start slot_labels.now slot_weak.now
         keeps first) count) from (length targets.old) (length labels.old) (length weak_to.old) }
-    ensures { Appended (entry ids) (tab (copied_slot (ids_of (entry codes) (entry escape_places) (entry escape_ids) base) start (entry slot_labels)
-        (entry slot_weak) keeps first) count) from result (entry targets) (entry labels) (entry weak_to) (exit targets) (exit labels) (exit weak_to) }
+    ensures { Appended ids.now (tab (copied_slot (ids_of codes.now escape_places.now escape_ids.now base) start slot_labels.now
+        slot_weak.now keeps first) count) from result targets.old labels.old weak_to.old targets.new labels.new weak_to.new }
 {
     let mut s = from;
     let mut cursor = row;
@@ -102,8 +101,8 @@ fn elements(
     requires count_bound { (count ≤ 2 ^ 31) × (start + count < 2 ^ 64) }
     requires edge_room { EdgeRoom ids.now (tab (copied_element (ids_of codes.now escape_places.now escape_ids.now base) start) count) from (length targets.old)
         (length labels.old) (length weak_to.old) }
-    ensures { Appended (entry ids) (tab (copied_element (ids_of (entry codes) (entry escape_places) (entry escape_ids) base) start) count) from result
-        (entry targets) (entry labels) (entry weak_to) (exit targets) (exit labels) (exit weak_to) }
+    ensures { Appended ids.now (tab (copied_element (ids_of codes.now escape_places.now escape_ids.now base) start) count) from result
+        targets.old labels.old weak_to.old targets.new labels.new weak_to.new }
 {
     let mut s = from;
     let mut cursor = row;
@@ -145,9 +144,9 @@ pub fn object_slots(
     requires slots_in { SlotsIn class_kinds.now slot_starts.now slot_ends.now (length slot_labels.now) (length slot_weak.now) kind class start }
     requires edge_room { EdgeRoom ids.now (copied_slots (ids_of codes.now escape_places.now escape_ids.now base) start class_kinds.now slot_starts.now
         slot_ends.now slot_labels.now slot_weak.now policy kind class) s (length targets.old) (length labels.old) (length weak_to.old) }
-    ensures { Appended (entry ids) (copied_slots (ids_of (entry codes) (entry escape_places) (entry escape_ids) base) start (entry class_kinds)
-        (entry slot_starts) (entry slot_ends) (entry slot_labels) (entry slot_weak) policy kind class) s result (entry targets) (entry labels) (entry weak_to)
-        (exit targets) (exit labels) (exit weak_to) }
+    ensures { Appended ids.now (copied_slots (ids_of codes.now escape_places.now escape_ids.now base) start class_kinds.now
+        slot_starts.now slot_ends.now slot_labels.now slot_weak.now policy kind class) s result targets.old labels.old weak_to.old
+        targets.new labels.new weak_to.new }
 {
     if kind != rules::Kind::INSTANCE {
         return s;
@@ -199,8 +198,8 @@ pub fn object_elements(
     requires count_bound { kind ≡ 1 → (count ≤ 2 ^ 31) × (start + count < 2 ^ 64) }
     requires edge_room { EdgeRoom ids.now (copied_elements (ids_of codes.now escape_places.now escape_ids.now base) start kind count) s (length targets.old)
         (length labels.old) (length weak_to.old) }
-    ensures { Appended (entry ids) (copied_elements (ids_of (entry codes) (entry escape_places) (entry escape_ids) base) start kind count) s result
-        (entry targets) (entry labels) (entry weak_to) (exit targets) (exit labels) (exit weak_to) }
+    ensures { Appended ids.now (copied_elements (ids_of codes.now escape_places.now escape_ids.now base) start kind count) s result
+        targets.old labels.old weak_to.old targets.new labels.new weak_to.new }
 {
     if kind != rules::Kind::OBJECT_ARRAY {
         return s;

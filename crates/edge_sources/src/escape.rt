@@ -2,7 +2,6 @@
 ghost use Rattle.std.specs.Prelude.{◌≡◌, cond, [], ◌∷◌, ltb, eqb, length};
 ghost use Rattle.columns.specs.Lists.{◌!◌, all_of};
 ghost use Rattle.columns.specs.Columns.{accepts};
-ghost use Rattle.columns.specs.Loans.{entry};
 ghost use Rattle.columns.specs.Ranks.{Rises};
 ghost use Rattle.index.specs.Copied.{ids_of, whole, escape_back};
 ghost use Rattle.rules.specs.Input.{copied_id};
@@ -40,7 +39,7 @@ fn whole_id(id: u64, place: usize) -> u64
 
 // The id of a place whose row this is; 0 where nothing reads back.
 fn at_row(escape_places: &[u64], escape_ids: &[u64], place: usize, row: usize) -> u64
-    ensures { let b = escape_back (entry escape_places) (entry escape_ids) place row in result ≡ cond (accepts b) (b ! 1) 0 }
+    ensures { let b = escape_back escape_places.now escape_ids.now place row in result ≡ cond (accepts b) (b ! 1) 0 }
 {
     if escape_places.len() <= row {
         return 0;

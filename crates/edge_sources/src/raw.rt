@@ -1,7 +1,6 @@
 // The slots of an instance and the elements of an array by the raw route: their ids are read from bodies, over the id size.
 ghost use Rattle.std.specs.Prelude.{◌≡◌, ◌+◌, ◌*◌, ◌^◌, ◌≤◌, ◌<◌, length};
 ghost use Rattle.columns.specs.Lists.{part, tab};
-ghost use Rattle.columns.specs.Loans.{entry, exit};
 ghost use Rattle.rules.specs.Input.{big_endian};
 ghost use Rattle.edge_append.specs.Append.{EdgeRoom, Appended};
 ghost use Rattle.edge_append.specs.Held.{SlotsIn};
@@ -25,7 +24,7 @@ fn spot_of(offset: u32) -> usize
 // The number that `size` bytes from `at` on write, highest byte first, one after another.
 fn id_by_bytes(bytes: &[u8], at: usize, size: usize) -> u64
     requires { (at + size ≤ length bytes.now) × (size ≤ 8) }
-    ensures { result ≡ big_endian 0 (part (entry bytes) at (at + size)) }
+    ensures { result ≡ big_endian 0 (part bytes.now at (at + size)) }
 {
     let mut high: u64 = 0;
     let mut k = 0;
@@ -39,7 +38,7 @@ fn id_by_bytes(bytes: &[u8], at: usize, size: usize) -> u64
 // The number that four bytes from `at` on write: in a straight line, since the compiler makes one load and one swap of it.
 fn word(bytes: &[u8], at: usize) -> u64
     requires { at + 4 ≤ length bytes.now }
-    ensures { (result ≡ big_endian 0 (part (entry bytes) at (at + 4))) × (result < 2 ^ 32) }
+    ensures { (result ≡ big_endian 0 (part bytes.now at (at + 4))) × (result < 2 ^ 32) }
 {
     wide(bytes[at]) * 16777216
         + wide(bytes[at + 1]) * 65536
@@ -50,7 +49,7 @@ fn word(bytes: &[u8], at: usize) -> u64
 // The number that the bytes from `at` on write, highest byte first. The two sizes that ids have are read without a loop.
 pub fn id_at_bytes(bytes: &[u8], at: usize, size: usize) -> u64
     requires { (at + size ≤ length bytes.now) × (size ≤ 8) }
-    ensures { result ≡ big_endian 0 (part (entry bytes) at (at + size)) }
+    ensures { result ≡ big_endian 0 (part bytes.now at (at + size)) }
 {
     if size == 8 {
         return word(bytes, at) * 4294967296 + word(bytes, at + 4);
@@ -85,8 +84,8 @@ fn slots(
     requires body_in { BodyIn (length bytes.now) size start body }
     requires edge_room { EdgeRoom ids.now (tab (raw_slot bytes.now size start slot_offsets.now slot_labels.now slot_weak.now keeps first)
         (slots_read slot_offsets.now size body first count)) from (length targets.old) (length labels.old) (length weak_to.old) }
-    ensures { Appended (entry ids) (tab (raw_slot (entry bytes) size start (entry slot_offsets) (entry slot_labels) (entry slot_weak) keeps first)
-        (slots_read (entry slot_offsets) size body first count)) from result (entry targets) (entry labels) (entry weak_to) (exit targets) (exit labels) (exit weak_to) }
+    ensures { Appended ids.now (tab (raw_slot bytes.now size start slot_offsets.now slot_labels.now slot_weak.now keeps first)
+        (slots_read slot_offsets.now size body first count)) from result targets.old labels.old weak_to.old targets.new labels.new weak_to.new }
 {
     let mut s = from;
     let mut k = 0;
@@ -131,8 +130,8 @@ fn elements(
 ) -> Pass
     requires count_bound { (count ≤ 2 ^ 31) × (size ≤ 8) × (start + count * size ≤ length bytes.now) }
     requires edge_room { EdgeRoom ids.now (tab (raw_element bytes.now size start) count) from (length targets.old) (length labels.old) (length weak_to.old) }
-    ensures { Appended (entry ids) (tab (raw_element (entry bytes) size start) count) from result
-        (entry targets) (entry labels) (entry weak_to) (exit targets) (exit labels) (exit weak_to) }
+    ensures { Appended ids.now (tab (raw_element bytes.now size start) count) from result
+        targets.old labels.old weak_to.old targets.new labels.new weak_to.new }
 {
     let mut s = from;
     let mut at = start;
@@ -174,9 +173,9 @@ pub fn object_slots(
     requires body_in { kind ≡ 0 → BodyIn (length bytes.now) size start body }
     requires edge_room { EdgeRoom ids.now (raw_slots bytes.now size start body class_kinds.now slot_starts.now slot_ends.now slot_offsets.now
         slot_labels.now slot_weak.now policy kind class) s (length targets.old) (length labels.old) (length weak_to.old) }
-    ensures { Appended (entry ids) (raw_slots (entry bytes) size start body (entry class_kinds) (entry slot_starts) (entry slot_ends)
-        (entry slot_offsets) (entry slot_labels) (entry slot_weak) policy kind class) s result (entry targets) (entry labels) (entry weak_to) (exit targets)
-        (exit labels) (exit weak_to) }
+    ensures { Appended ids.now (raw_slots bytes.now size start body class_kinds.now slot_starts.now slot_ends.now
+        slot_offsets.now slot_labels.now slot_weak.now policy kind class) s result targets.old labels.old weak_to.old targets.new
+        labels.new weak_to.new }
 {
     if kind != rules::Kind::INSTANCE {
         return s;
@@ -222,8 +221,8 @@ pub fn object_elements(
 ) -> Pass
     requires count_bound { kind ≡ 1 → (count ≤ 2 ^ 31) × (size ≤ 8) × (start + count * size ≤ length bytes.now) }
     requires edge_room { EdgeRoom ids.now (raw_elements bytes.now size start kind count) s (length targets.old) (length labels.old) (length weak_to.old) }
-    ensures { Appended (entry ids) (raw_elements (entry bytes) size start kind count) s result
-        (entry targets) (entry labels) (entry weak_to) (exit targets) (exit labels) (exit weak_to) }
+    ensures { Appended ids.now (raw_elements bytes.now size start kind count) s result
+        targets.old labels.old weak_to.old targets.new labels.new weak_to.new }
 {
     if kind != rules::Kind::OBJECT_ARRAY {
         return s;

@@ -1,6 +1,7 @@
 // Who points here: the questions on the incoming side of a graph, over the used parts of its columns, writing nothing. Objects are counted by the short offsets.
+#![tactic(auto)]
 ghost use Rattle.std.specs.Prelude.{◌≡◌, ◌≤◌, length};
-ghost use Rattle.columns.specs.Loans.{entry};
+ghost use Rattle.columns.specs.Loans.{now_of};
 ghost use Rattle.rules.specs.Types.{span_says, edge_count_says, entry_says};
 ghost use Rattle.rules.specs.Incoming.{in_columns};
 ghost use Rattle.ask_span.specs.Reading.{count_of, span_part};
@@ -18,7 +19,7 @@ pub fn span(
     in_long_value: &[u64],
     object: usize,
 ) -> Span
-    ensures { span_says result ≡ in_span (in_columns entry sources places in_bases in_short in_long_at in_long_value) object }
+    ensures { span_says result ≡ in_span (in_columns now_of sources places in_bases in_short in_long_at in_long_value) object }
 {
     ask_span::span_within(
         in_bases,
@@ -41,7 +42,7 @@ pub fn in_degree(
     in_long_value: &[u64],
     object: usize,
 ) -> EdgeCount
-    ensures { edge_count_says result ≡ count_of (in_span (in_columns entry sources places in_bases in_short in_long_at in_long_value) object) }
+    ensures { edge_count_says result ≡ count_of (in_span (in_columns now_of sources places in_bases in_short in_long_at in_long_value) object) }
 {
     ask_span::count_within(
         in_bases,
@@ -56,14 +57,14 @@ pub fn in_degree(
 
 // The sources of an object's entries, as a part of their column, by the span that `span` gave; empty of a refusal, or of a span that is none of this column's.
 pub fn sources_of<'a>(sources: &'a [u32], at: Span) -> &'a [u32]
-    ensures { result.now ≡ span_part (span_says at) (entry sources) }
+    ensures { result.now ≡ span_part (span_says at) sources.now }
 {
     ask_span::targets_of(sources, at)
 }
 
 // The places of an object's entries, likewise.
 pub fn places_of<'a>(places: &'a [u32], at: Span) -> &'a [u32]
-    ensures { result.now ≡ span_part (span_says at) (entry places) }
+    ensures { result.now ≡ span_part (span_says at) places.now }
 {
     ask_span::targets_of(places, at)
 }
@@ -79,7 +80,7 @@ fn stands_at(
     k: usize,
 ) -> Entry
     requires { (start ≤ end) × (end ≤ length sources.now) × (end ≤ length places.now) }
-    ensures { entry_says result ≡ entry_in (entry sources) (entry places) start end objects object k }
+    ensures { entry_says result ≡ entry_in sources.now places.now start end objects object k }
 {
     if end - start <= k {
         return Entry::Index(k);
@@ -105,7 +106,7 @@ pub fn entry_at(
     object: usize,
     k: usize,
 ) -> Entry
-    ensures { entry_says result ≡ entry_of (in_columns entry sources places in_bases in_short in_long_at in_long_value) object k }
+    ensures { entry_says result ≡ entry_of (in_columns now_of sources places in_bases in_short in_long_at in_long_value) object k }
 {
     let at = span(
         sources,

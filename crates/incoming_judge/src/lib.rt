@@ -1,7 +1,8 @@
 // The lowest object that cannot be read back, in most cases by quick tests; on the way the targets of all edges are counted.
+#![tactic(auto)]
 ghost use Rattle.std.specs.Prelude.{◌≡◌, ◌≤◌, length};
 ghost use Rattle.columns.specs.Columns.{zeros};
-ghost use Rattle.columns.specs.Loans.{entry, exit};
+ghost use Rattle.columns.specs.Loans.{now_of};
 ghost use Rattle.labels.specs.Reading.{coded_of};
 ghost use Rattle.ask_span.specs.Graph.{edge_columns};
 ghost use Rattle.incoming_judge.specs.Judged.{Judged, Counted, no_doubt};
@@ -21,7 +22,7 @@ fn no_doubt(
 ) -> bool
     requires { (start ≤ end) × (end ≤ length edge_codes.now) }
     ensures { result ≡
-        no_doubt narrow (entry long_at) (entry long_value) (coded_of (entry edge_codes) (entry fields) (entry escape_at) (entry escape_label)) start end stop }
+        no_doubt narrow long_at.now long_value.now (coded_of edge_codes.now fields.now escape_at.now escape_label.now) start end stop }
 {
     if stop < end {
         return false;
@@ -53,7 +54,7 @@ fn count(
 ) -> usize
     requires working_value { working.old ≡ zeros (length working.old) }
     requires counted { Counted (edge_columns (λ x. x.now) bases short long_at long_value edge_codes targets fields escape_at escape_label) narrow start end }
-    ensures { Judged (edge_columns entry bases short long_at long_value edge_codes targets fields escape_at escape_label) (entry working) result (exit working) }
+    ensures { Judged (edge_columns now_of bases short long_at long_value edge_codes targets fields escape_at escape_label) working.old result working.new }
 {
     let objects = short.len() - 1;
     let stop = inverse::tally(targets, start, end, objects, working);
@@ -98,7 +99,7 @@ pub fn judge(
     working: &mut [u64],
 ) -> usize
     requires { working.old ≡ zeros (length working.old) }
-    ensures { Judged (edge_columns entry bases short long_at long_value edge_codes targets fields escape_at escape_label) (entry working) result (exit working) }
+    ensures { Judged (edge_columns now_of bases short long_at long_value edge_codes targets fields escape_at escape_label) working.old result working.new }
 {
     if short.len() < 2 {
         return 0;

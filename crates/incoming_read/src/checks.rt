@@ -1,6 +1,5 @@
 // The tests of single columns.
 ghost use Rattle.std.specs.Prelude.{◌≡◌, ◌&&◌, ◌||◌, ◌-◌, min, leb};
-ghost use Rattle.columns.specs.Loans.{entry};
 ghost use Rattle.rules.specs.Questions.{rises};
 ghost use Rattle.incoming_read.specs.Steps.{is_odd, plain_only, fields_only};
 
@@ -8,7 +7,7 @@ use rules::Label;
 
 // Each number is above the one before it.
 pub(crate) fn rises_u32(xs: &[u32]) -> bool
-    ensures { result ≡ rises (entry xs) }
+    ensures { result ≡ rises xs.now }
 {
     let mut i = 1;
     while i < xs.len() {
@@ -21,7 +20,7 @@ pub(crate) fn rises_u32(xs: &[u32]) -> bool
 }
 
 pub(crate) fn rises_u64(xs: &[u64]) -> bool
-    ensures { result ≡ rises (entry xs) }
+    ensures { result ≡ rises xs.now }
 {
     let mut i = 1;
     while i < xs.len() {
@@ -100,7 +99,7 @@ pub(crate) fn field_limit(fields: usize) -> u16
 
 // All codes are looked at, without an early exit.
 pub(crate) fn all_plain(codes: &[u16], limit: u16) -> bool
-    ensures { result ≡ plain_only limit (entry codes) }
+    ensures { result ≡ plain_only limit codes.now }
 {
     let mut odd = false;
     let mut i = 0;
@@ -116,7 +115,7 @@ pub(crate) fn all_plain(codes: &[u16], limit: u16) -> bool
 
 // No field has an element's label.
 pub(crate) fn all_fields(fields: &[u32]) -> bool
-    ensures { result ≡ fields_only (entry fields) }
+    ensures { result ≡ fields_only fields.now }
 {
     let mut i = 0;
     while i < fields.len() {

@@ -1,11 +1,12 @@
 // Which objects of finished columns cannot be read back: the lowest, exactly; and quick tests that leave no doubt on most columns.
+#![tactic(auto)]
 mod checks;
 mod object;
 pub mod pass;
 mod walk;
 
 ghost use Rattle.std.specs.Prelude.{◌≡◌, ◌≤◌, [], length};
-ghost use Rattle.columns.specs.Loans.{entry};
+ghost use Rattle.columns.specs.Loans.{now_of};
 ghost use Rattle.rules.specs.Tables.{offset_columns};
 ghost use Rattle.labels.specs.Reading.{coded_of};
 ghost use Rattle.ask_span.specs.Graph.{edge_columns};
@@ -21,7 +22,7 @@ pub fn lists_rise(
     escape_at: &[u64],
     escape_label: &[u32],
 ) -> bool
-    ensures { result ≡ lists_rise (entry long_at) (entry long_value) (entry escape_at) (entry escape_label) }
+    ensures { result ≡ lists_rise long_at.now long_value.now escape_at.now escape_label.now }
 {
     if long_at.len() != long_value.len() {
         return false;
@@ -47,7 +48,7 @@ pub fn first_unread(
     escape_at: &[u64],
     escape_label: &[u32],
 ) -> usize
-    ensures { result ≡ first_unread (edge_columns entry bases short long_at long_value edge_codes targets fields escape_at escape_label) }
+    ensures { result ≡ first_unread (edge_columns now_of bases short long_at long_value edge_codes targets fields escape_at escape_label) }
 {
     if lists_rise(long_at, long_value, escape_at, escape_label) {
         let objects = checks::less_one(short.len());
@@ -85,7 +86,7 @@ pub fn spans(
     targets: &[u32],
 ) -> Spans
     requires { 2 ≤ length short.now }
-    ensures { SpansRead (offset_columns entry bases short long_at long_value) (length (entry edge_codes)) (length (entry targets)) result }
+    ensures { SpansRead (offset_columns now_of bases short long_at long_value) (length edge_codes.now) (length targets.now) result }
 {
     if 67108865 < short.len() {
         return pass::bad();
@@ -104,7 +105,7 @@ pub fn spans(
 // Whether the codes from one place up to another ask for no row, and no field has an element's label.
 pub fn codes_plain(edge_codes: &[u16], fields: &[u32], start: usize, end: usize) -> bool
     requires { (start ≤ end) × (end ≤ length edge_codes.now) }
-    ensures { result ≡ codes_plain (coded_of (entry edge_codes) (entry fields) [] []) start end }
+    ensures { result ≡ codes_plain (coded_of edge_codes.now fields.now [] []) start end }
 {
     if checks::all_plain(&edge_codes[start..end], checks::field_limit(fields.len())) {
         return checks::all_fields(fields);

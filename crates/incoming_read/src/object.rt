@@ -1,6 +1,6 @@
 // Reading one object: its span, its targets, and its labels. Nothing is written.
 ghost use Rattle.std.specs.Prelude.{◌≡◌, true, ◌-◌, ◌≤◌, ◌<◌, length};
-ghost use Rattle.columns.specs.Loans.{entry};
+ghost use Rattle.columns.specs.Loans.{now_of};
 ghost use Rattle.rules.specs.Incoming.{can_read};
 ghost use Rattle.ask_span.specs.Graph.{edge_columns};
 ghost use Rattle.incoming_read.specs.Unread.{lists_rise};
@@ -12,7 +12,7 @@ use rules::Span;
 // Whether the targets from `start` up to `end` are among so many objects.
 fn targets_are_objects(targets: &[u32], start: usize, end: usize, objects: usize) -> bool
     requires { (start ≤ end) × (end ≤ length targets.now) }
-    ensures { result ≡ objects_only objects (entry targets) start (end - start) }
+    ensures { result ≡ objects_only objects targets.now start (end - start) }
 {
     let mut e = start;
     while e < end {
@@ -39,7 +39,7 @@ pub(crate) fn reads(
 ) -> bool
     requires escape_label_value { lists_rise long_at.now long_value.now escape_at.now escape_label.now ≡ true }
     requires object_in_bounds { object < length short.now - 1 }
-    ensures { result ≡ can_read (edge_columns entry bases short long_at long_value edge_codes targets fields escape_at escape_label) object }
+    ensures { result ≡ can_read (edge_columns now_of bases short long_at long_value edge_codes targets fields escape_at escape_label) object }
 {
     match ask_span::span(
         bases, short, long_at, long_value, edge_codes, targets, object,

@@ -1,6 +1,6 @@
 // One pass over all offsets.
 ghost use Rattle.std.specs.Prelude.{◌≡◌, ◌≤◌, false, [], ◌∷◌, length};
-ghost use Rattle.columns.specs.Loans.{entry};
+ghost use Rattle.columns.specs.Loans.{now_of};
 ghost use Rattle.store.specs.Blocked.{read_back};
 ghost use Rattle.rules.specs.Tables.{offset_columns};
 ghost use Rattle.incoming_read.specs.Unread.{SpansRead};
@@ -41,7 +41,7 @@ pub(crate) fn spans_from(
 ) -> Spans
     requires in_bounds { (2 ≤ length short.now) × (length short.now ≤ 67108865) }
     requires long_value_value { read_back (offset_columns (λ x. x.now) bases short long_at long_value) 0 ≡ 0 ∷ start ∷ [] }
-    ensures { SpansRead (offset_columns entry bases short long_at long_value) (length (entry edge_codes)) (length (entry targets)) result }
+    ensures { SpansRead (offset_columns now_of bases short long_at long_value) (length edge_codes.now) (length targets.now) result }
 {
     let limit = checks::span_limit(edge_codes.len(), targets.len());
     let mut last = start;

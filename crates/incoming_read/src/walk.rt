@@ -1,6 +1,5 @@
 // Reading the labels of one object in order.
 ghost use Rattle.std.specs.Prelude.{◌≡◌, ◌-◌, ◌≤◌, length};
-ghost use Rattle.columns.specs.Loans.{entry};
 ghost use Rattle.labels.specs.Reading.{coded_of};
 ghost use Rattle.incoming_read.specs.Steps.{walks_past};
 
@@ -16,7 +15,7 @@ pub(crate) fn labels_read(
     end: usize,
 ) -> bool
     requires { (start ≤ end) × (end ≤ length edge_codes.now) }
-    ensures { result ≡ walks_past (coded_of (entry edge_codes) (entry fields) (entry escape_at) (entry escape_label)) start (end - start) }
+    ensures { result ≡ walks_past (coded_of edge_codes.now fields.now escape_at.now escape_label.now) start (end - start) }
 {
     let edges = end - start;
     let mut next = 0;

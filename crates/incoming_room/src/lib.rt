@@ -1,7 +1,7 @@
 // The two ends of inverting: what can be refused before an entry is laid, and what is cleared behind the answer. `incoming_stages` passes these on.
+#![tactic(auto)]
 ghost use Rattle.std.specs.Prelude.{◌≡◌};
 ghost use Rattle.columns.specs.Columns.{kept};
-ghost use Rattle.columns.specs.Loans.{entry, exit};
 ghost use Rattle.rules.specs.Types.{inverted_says};
 ghost use Rattle.incoming_room.specs.Room.{early_says, lent_rooms, Settled};
 
@@ -58,7 +58,7 @@ pub fn settle(
     places: &mut [u32],
     working: &mut [u64],
 ) -> Inverted
-    ensures { Settled (inverted_says answer) (inverted_says result) (entry sources) (entry places) (entry working) (exit sources) (exit places) (exit working) }
+    ensures { Settled (inverted_says answer) (inverted_says result) sources.old places.old working.old sources.new places.new working.new }
 {
     let end = entries_kept(answer);
     columns::zero_u32(sources, end);

@@ -1,8 +1,9 @@
 // The stages of inverting that know no entry: what has no room, the offsets coded, and the end. A stage that is handed a refusal hands it on.
 // The first and the last stand in a crate of their own, and have their names here.
+#![tactic(auto)]
 ghost use Rattle.std.specs.Prelude.{◌≡◌, ◌+◌, ◌-◌, ◌<◌, min, length};
 ghost use Rattle.columns.specs.Columns.{accepts};
-ghost use Rattle.columns.specs.Loans.{entry, exit};
+ghost use Rattle.columns.specs.Loans.{now_of};
 ghost use Rattle.columns.specs.Ranks.{Climbs};
 ghost use Rattle.store.specs.Blocked.{coded_says, offset_says, long_rows, Coding};
 ghost use Rattle.rules.specs.Tables.{offset_columns};
@@ -46,7 +47,7 @@ fn between(first: Offset, last: Offset) -> usize
 
 // How many entries there are: one for each edge.
 pub fn entries(bases: &[u64], short: &[u16], long_at: &[u32], long_value: &[u64]) -> usize
-    ensures { result ≡ entries_of (offset_columns entry bases short long_at long_value) }
+    ensures { result ≡ entries_of (offset_columns now_of bases short long_at long_value) }
 {
     let first = store::offset_at(bases, short, long_at, long_value, 0);
     let last = store::offset_at(bases, short, long_at, long_value, objects(short.len()));
@@ -80,7 +81,7 @@ fn last_of(start: usize, n: usize) -> usize
 // How many rows the long list needs, of offsets that climb: none where the last offset of every block is short.
 fn long_rows(values: &[u64]) -> usize
     requires { Climbs values.now }
-    ensures { result ≡ long_rows (entry values) }
+    ensures { result ≡ long_rows values.now }
 {
     let mut start = 0;
     while start < values.len() {
@@ -111,8 +112,8 @@ fn code_climbing(
     in_long_value: &mut [u64],
 ) -> CodedOffsets
     requires { Climbing values.now (length in_bases.old) (length in_short.old) }
-    ensures { Coding (entry values) (length (entry in_bases)) (length (entry in_short)) (length (entry in_long_at)) (length (entry in_long_value)) result
-        (exit in_bases) (exit in_short) (exit in_long_at) (exit in_long_value) }
+    ensures { Coding values.now (length in_bases.old) (length in_short.old) (length in_long_at.old) (length in_long_value.old) result
+        in_bases.new in_short.new in_long_at.new in_long_value.new }
 {
     let rows = long_rows(values);
     if fits(rows, in_long_at.len(), in_long_value.len()) {
@@ -154,8 +155,8 @@ pub fn code(
     in_long_value: &mut [u64],
 ) -> Inverted
     requires { CodeReady (inverted_says answer) objects working.now (length in_bases.old) (length in_short.old) }
-    ensures { CodedIn (inverted_says answer) objects (entry working) (length (entry in_bases)) (length (entry in_short)) (length (entry in_long_at))
-        (length (entry in_long_value)) (inverted_says result) (exit in_bases) (exit in_short) (exit in_long_at) (exit in_long_value) }
+    ensures { CodedIn (inverted_says answer) objects working.now (length in_bases.old) (length in_short.old) (length in_long_at.old)
+        (length in_long_value.old) (inverted_says result) in_bases.new in_short.new in_long_at.new in_long_value.new }
 {
     if is_done(answer) {
         let coded = code_climbing(

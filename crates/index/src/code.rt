@@ -2,7 +2,6 @@
 ghost use Rattle.std.specs.Prelude.{◌≡◌, ◌≤◌, length};
 ghost use Rattle.columns.specs.Lists.{◌!◌};
 ghost use Rattle.columns.specs.Columns.{accepts};
-ghost use Rattle.columns.specs.Loans.{entry, exit};
 ghost use Rattle.index.specs.Copied.{code_of, ids_coded_says, ids_coding_says, escape_rows, IdsAccepted, IdsLaid, IdsFilled, IdsEmptied};
 
 use super::CodedIds;
@@ -31,7 +30,7 @@ pub fn code_of(id: u64, base: u64) -> u32
 
 // How many escapes the ids need.
 fn count_escapes(ids: &[u64], base: u64) -> usize
-    ensures { result ≡ escape_rows base (entry ids) }
+    ensures { result ≡ escape_rows base ids.now }
 {
     let mut rows = 0;
     let mut i = 0;
@@ -48,7 +47,7 @@ fn count_escapes(ids: &[u64], base: u64) -> usize
 
 // The answer, from the ids and the lengths lent for the three columns.
 pub(crate) fn judge(ids: &[u64], base: u64, nc: usize, np: usize, ni: usize) -> CodedIds
-    ensures { ids_coded_says result ≡ ids_coding_says base (entry ids) nc np ni }
+    ensures { ids_coded_says result ≡ ids_coding_says base ids.now nc np ni }
 {
     let n = ids.len();
     if nc < n {
@@ -97,7 +96,7 @@ fn write(
     escape_ids: &mut [u64],
 )
     requires { IdsAccepted base ids.now (length codes.old) (length escape_places.old) (length escape_ids.old) }
-    ensures { IdsLaid base (entry ids) (entry codes) (entry escape_places) (entry escape_ids) (exit codes) (exit escape_places) (exit escape_ids) }
+    ensures { IdsLaid base ids.now codes.old escape_places.old escape_ids.old codes.new escape_places.new escape_ids.new }
 {
     let mut k = 0;
     let mut i = 0;
@@ -127,8 +126,8 @@ pub(crate) fn write_all(
 )
     requires rows_value { rows ≡ escape_rows base ids.now }
     requires ids_accepted { IdsAccepted base ids.now (length codes.old) (length escape_places.old) (length escape_ids.old) }
-    ensures { IdsFilled base (entry ids) (length (entry codes)) (length (entry escape_places)) (length (entry escape_ids))
-        (exit codes) (exit escape_places) (exit escape_ids) }
+    ensures { IdsFilled base ids.now (length codes.old) (length escape_places.old) (length escape_ids.old)
+        codes.new escape_places.new escape_ids.new }
 {
     write(ids, base, codes, escape_places, escape_ids);
     columns::zero_u32(codes, ids.len());
@@ -137,7 +136,7 @@ pub(crate) fn write_all(
 }
 
 pub(crate) fn zero_all(codes: &mut [u32], escape_places: &mut [u64], escape_ids: &mut [u64])
-    ensures { IdsEmptied (length (entry codes)) (length (entry escape_places)) (length (entry escape_ids)) (exit codes) (exit escape_places) (exit escape_ids) }
+    ensures { IdsEmptied (length codes.old) (length escape_places.old) (length escape_ids.old) codes.new escape_places.new escape_ids.new }
 {
     columns::zero_u32(codes, 0);
     columns::zero_u64(escape_places, 0);

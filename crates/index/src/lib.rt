@@ -1,9 +1,9 @@
 // Reference ids in four bytes each: the distance above a base in steps of 8 bytes, plus one; an id that does not fit is kept whole in a list of
 // escapes, by place (`Copied`).
+#![tactic(auto)]
 pub mod code;
 
 ghost use Rattle.std.specs.Prelude.{length};
-ghost use Rattle.columns.specs.Loans.{entry, exit};
 ghost use Rattle.index.specs.Copied.{IdsCoding};
 
 pub use index_read::{CopiedId, id_at};
@@ -23,8 +23,8 @@ pub fn code_ids(
     escape_places: &mut [u64],
     escape_ids: &mut [u64],
 ) -> CodedIds
-    ensures { IdsCoding base (entry ids) (length (entry codes)) (length (entry escape_places)) (length (entry escape_ids)) result (exit codes)
-        (exit escape_places) (exit escape_ids) }
+    ensures { IdsCoding base ids.now (length codes.old) (length escape_places.old) (length escape_ids.old) result codes.new
+        escape_places.new escape_ids.new }
 {
     let r = code::judge(
         ids,

@@ -1,8 +1,8 @@
 // One id read back from its three columns. `index` codes them, and passes this on.
+#![tactic(auto)]
 mod read;
 
 ghost use Rattle.std.specs.Prelude.{◌≡◌};
-ghost use Rattle.columns.specs.Loans.{entry};
 ghost use Rattle.index_read.specs.Back.{id_says, ids_of, id_back};
 
 // The code of an id that is kept whole in the escapes.
@@ -24,7 +24,7 @@ pub fn id_at(
     base: u64,
     i: usize,
 ) -> CopiedId
-    ensures { id_says result ≡ id_back (ids_of (entry codes) (entry escape_places) (entry escape_ids) base) i }
+    ensures { id_says result ≡ id_back (ids_of codes.now escape_places.now escape_ids.now base) i }
 {
     if codes.len() <= i {
         return CopiedId::Index(i);

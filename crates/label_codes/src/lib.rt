@@ -1,8 +1,8 @@
 // The codes of all labels, by the code table, and their escapes.
+#![tactic(auto)]
 ghost use Rattle.std.specs.Prelude.{◌≡◌, ◌≤◌, ◌-◌, length};
 ghost use Rattle.columns.specs.Lists.{one};
 ghost use Rattle.columns.specs.Columns.{over};
-ghost use Rattle.columns.specs.Loans.{entry, exit};
 ghost use Rattle.rules.specs.Labels.{is_escaped};
 ghost use Rattle.labels.specs.Coding.{Room, gap_of, code_by, codes_by, all_by, LaidOut, escapes_in, escaped_to, RoomFor, Escapes, EscapesCounted};
 
@@ -23,7 +23,7 @@ fn gap_of(index: u32, next: u32) -> u16
 // A label's code where an element would have the index `next` at least.
 fn code_of(label: u32, next: u32, names: usize, table: &[u16]) -> u16
     requires { Room names table.now }
-    ensures { result ≡ code_by names (entry table) next label }
+    ensures { result ≡ code_by names table.now next label }
 {
     if label < Label::ARRAY_ELEMENT {
         return table[slot_of(label, names)];
@@ -34,7 +34,7 @@ fn code_of(label: u32, next: u32, names: usize, table: &[u16]) -> u16
 // The codes of one object's labels. The first element's gap is its index.
 fn code_object(labels: &[u32], names: usize, table: &[u16], edge_codes: &mut [u16])
     requires { Room names table.now × (length labels.now ≤ length edge_codes.old) }
-    ensures { exit edge_codes ≡ over (codes_by names (entry table) (entry labels)) (entry edge_codes) }
+    ensures { edge_codes.new ≡ over (codes_by names table.now labels.now) edge_codes.old }
 {
     let mut next = 0;
     let mut i = 0;
@@ -55,7 +55,7 @@ pub fn code_objects(
     edge_codes: &mut [u16],
 )
     requires { Room names table.now × LaidOut offsets.now (length labels.now) × (length labels.now ≤ length edge_codes.old) }
-    ensures { exit edge_codes ≡ over (all_by names (entry table) (entry offsets) (entry labels) (length (entry offsets) - 1)) (entry edge_codes) }
+    ensures { edge_codes.new ≡ over (all_by names table.now offsets.now labels.now (length offsets.now - 1)) edge_codes.old }
 {
     let objects = offsets.len() - 1;
     let mut o = 0;
@@ -77,7 +77,7 @@ fn rows_of(code: u16) -> usize
 // How many of one object's labels are escaped.
 fn count_object(labels: &[u32], names: usize, table: &[u16]) -> usize
     requires { Room names table.now }
-    ensures { result ≡ escapes_in (codes_by names (entry table) (entry labels)) }
+    ensures { result ≡ escapes_in (codes_by names table.now labels.now) }
 {
     let mut rows = 0;
     let mut next = 0;
@@ -94,7 +94,7 @@ fn count_object(labels: &[u32], names: usize, table: &[u16]) -> usize
 // The need of buffer 7: how many labels are escaped.
 pub fn count_escapes(offsets: &[u64], labels: &[u32], names: usize, table: &[u16]) -> usize
     requires { Room names table.now × LaidOut offsets.now (length labels.now) }
-    ensures { EscapesCounted names (entry table) (entry offsets) (entry labels) result }
+    ensures { EscapesCounted names table.now offsets.now labels.now result }
 {
     let objects = offsets.len() - 1;
     let mut rows = 0;
@@ -117,7 +117,7 @@ pub fn write_escapes(
 ) -> usize
     requires labels_in_bounds { length labels.now ≤ length edge_codes.now }
     requires room_for { RoomFor (length (escaped_to edge_codes.now (length labels.now))) escape_at.old escape_label.old }
-    ensures { Escapes (entry edge_codes) (entry labels) (entry escape_at) (entry escape_label) result (exit escape_at) (exit escape_label) }
+    ensures { Escapes edge_codes.now labels.now escape_at.old escape_label.old result escape_at.new escape_label.new }
 {
     let mut k = 0;
     let mut e = 0;
@@ -136,7 +136,7 @@ pub fn write_escapes(
 
 // The need of buffer 8: one code for each label.
 pub fn count_codes(labels: &[u32]) -> usize
-    ensures { result ≡ length (entry labels) }
+    ensures { result ≡ length labels.now }
 {
     labels.len()
 }

@@ -1,7 +1,7 @@
 // Which fields have codes, and the code table.
 ghost use Rattle.std.specs.Prelude.{◌≡◌, ◌∷◌, ◌+◌, ◌-◌, ◌≤◌, ◌<◌, length};
 ghost use Rattle.columns.specs.Columns.{over};
-ghost use Rattle.columns.specs.Loans.{entry, exit};
+ghost use Rattle.columns.specs.Loans.{now_of};
 ghost use Rattle.rules.specs.Types.{loader_label};
 ghost use Rattle.rules.specs.Labels.{code_table};
 ghost use Rattle.labels.specs.Coding.{Room};
@@ -14,7 +14,7 @@ use rules::Label;
 // A table of n places without codes.
 fn clear_table(table: &mut [u16], n: usize)
     requires { n ≤ length table.old }
-    ensures { exit table ≡ over (uncoded n) (entry table) }
+    ensures { table.new ≡ over (uncoded n) table.old }
 {
     let mut i = 0;
     while i < n {
@@ -27,7 +27,7 @@ fn clear_table(table: &mut [u16], n: usize)
 pub fn write_table(fields: &[u32], names: usize, table: &mut [u16])
     requires room { Room names table.old × (length fields.now ≤ 32767) }
     requires named { Named names fields.now }
-    ensures { exit table ≡ over (code_table names (entry fields)) (entry table) }
+    ensures { table.new ≡ over (code_table names fields.now) table.old }
 {
     clear_table(table, names + 2);
     let mut k = fields.len();
@@ -40,7 +40,7 @@ pub fn write_table(fields: &[u32], names: usize, table: &mut [u16])
 // 1 at the label's place.
 fn mark_label(label: u32, names: usize, table: &mut [u16])
     requires { Room names table.old }
-    ensures { exit table ≡ mark_label names (entry table) label }
+    ensures { table.new ≡ mark_label names table.old label }
 {
     table[slot_of(label, names)] = 1;
 }
@@ -48,7 +48,7 @@ fn mark_label(label: u32, names: usize, table: &mut [u16])
 // The labels of one class's slots; or of a range of edges, where the fields that occur are counted.
 pub fn mark_slots(slot_labels: &[u32], from: usize, to: usize, names: usize, table: &mut [u16])
     requires { (from ≤ to) × (to ≤ length slot_labels.now) × Room names table.old }
-    ensures { exit table ≡ mark_labels names (entry table) (slots_named (entry slot_labels) from (to - from)) }
+    ensures { table.new ≡ mark_labels names table.old (slots_named slot_labels.now from (to - from)) }
 {
     let mut i = from;
     while i < to {
@@ -67,7 +67,7 @@ fn mark_statics(
     table: &mut [u16],
 )
     requires { (from ≤ to) × (to ≤ length static_names.now) × (to ≤ length static_types.now) × Room names table.old }
-    ensures { exit table ≡ mark_labels names (entry table) (statics_named (entry static_names) (entry static_types) from (to - from)) }
+    ensures { table.new ≡ mark_labels names table.old (statics_named static_names.now static_types.now from (to - from)) }
 {
     let mut i = from;
     while i < to {
@@ -94,8 +94,8 @@ pub fn mark_named(
     table: &mut [u16],
 )
     requires { Room names table.old × Ranges (name_columns (λ x. x.now) slot_starts slot_ends static_starts static_ends slot_labels static_names static_types) classes }
-    ensures { let columns = name_columns entry slot_starts slot_ends static_starts static_ends slot_labels static_names static_types in
-        exit table ≡ mark_labels names (entry table) (loader_label ∷ named_by columns classes) }
+    ensures { let columns = name_columns now_of slot_starts slot_ends static_starts static_ends slot_labels static_names static_types in
+        table.new ≡ mark_labels names table.old (loader_label ∷ named_by columns classes) }
 {
     mark_label(Label::LOADER, names, table);
     let mut c = 0;
@@ -113,7 +113,7 @@ pub fn mark_named(
 // How many labels are marked.
 pub fn count_marked(table: &[u16], names: usize) -> usize
     requires { Room names table.now }
-    ensures { result ≡ length (marked_labels names (entry table)) }
+    ensures { result ≡ length (marked_labels names table.now) }
 {
     let mut k = 0;
     let mut i = 0;
@@ -131,7 +131,7 @@ pub fn count_marked(table: &[u16], names: usize) -> usize
 // The labels that are marked: names rising, then the loader.
 pub fn write_marked(table: &[u16], names: usize, fields: &mut [u32])
     requires { Room names table.now × (length (marked_labels names table.now) ≤ length fields.old) }
-    ensures { exit fields ≡ over (marked_labels names (entry table)) (entry fields) }
+    ensures { fields.new ≡ over (marked_labels names table.now) fields.old }
 {
     let mut k = 0;
     let mut i = 0;

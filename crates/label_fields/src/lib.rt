@@ -1,8 +1,9 @@
 // The fields that have codes: all that are listed, or of too many the most used.
+#![tactic(auto)]
 pub mod fields;
 
 ghost use Rattle.std.specs.Prelude.{◌≡◌, ◌≤◌, length};
-ghost use Rattle.columns.specs.Loans.{entry, exit};
+ghost use Rattle.columns.specs.Loans.{now_of};
 ghost use Rattle.rules.specs.Labels.{fields_of};
 ghost use Rattle.labels.specs.Coding.{Room};
 ghost use Rattle.labels.specs.Fields.{name_columns, named_by, Ranges, Chosen};
@@ -22,8 +23,8 @@ pub fn count_fields(
     table: &mut [u16],
 ) -> usize
     requires { Room names table.old × Ranges (name_columns (λ x. x.now) slot_starts slot_ends static_starts static_ends slot_labels static_names static_types) classes }
-    ensures { let columns = name_columns entry slot_starts slot_ends static_starts static_ends slot_labels static_names static_types in
-        result ≡ length (fields_of names (named_by columns classes) (entry labels)) }
+    ensures { let columns = name_columns now_of slot_starts slot_ends static_starts static_ends slot_labels static_names static_types in
+        result ≡ length (fields_of names (named_by columns classes) labels.now) }
 {
     columns::zero_u16(table, 0);
     fields::mark_named(
@@ -68,8 +69,8 @@ pub fn write_fields(
     requires ranges { Ranges (name_columns (λ x. x.now) slot_starts slot_ends static_starts static_ends slot_labels static_names static_types) classes }
     requires labels_in_bounds { let columns = name_columns (λ x. x.now) slot_starts slot_ends static_starts static_ends slot_labels static_names static_types in
         length (fields_of names (named_by columns classes) labels.now) ≤ length fields.old }
-    ensures { let columns = name_columns entry slot_starts slot_ends static_starts static_ends slot_labels static_names static_types in
-        Chosen (fields_of names (named_by columns classes) (entry labels)) (entry fields) result (exit fields) }
+    ensures { let columns = name_columns now_of slot_starts slot_ends static_starts static_ends slot_labels static_names static_types in
+        Chosen (fields_of names (named_by columns classes) labels.now) fields.old result fields.new }
 {
     columns::zero_u16(table, 0);
     fields::mark_named(

@@ -1,4 +1,5 @@
 // The place of an id in a column of ids: by a walk from the front, and on a column that rises by a search that starts from a guess.
+#![tactic(auto)]
 ghost use Rattle.std.specs.Prelude.{◌≡◌, ltb, length};
 ghost use Rattle.columns.specs.Lists.{one};
 ghost use Rattle.columns.specs.Ranks.{Ranked};

@@ -1,8 +1,8 @@
 // Hints: where the search for an id starts. The span of the ids is cut into buckets of 65,536 steps, a power of two of them; a column of short numbers, lent
 // for something else and idle so long, has in two numbers the place of each bucket's first id, and inside a bucket the place is guessed by proportion. A search
 // is right from any place, so no lookup relies on what `mark` leaves, and of a guess only a bound is promised.
+#![tactic(auto)]
 ghost use Rattle.std.specs.Prelude.{◌≡◌, ◌+◌, ◌*◌, ◌%◌, ◌≤◌, ◌<◌, max, length, set};
-ghost use Rattle.columns.specs.Loans.{entry, exit};
 ghost use Rattle.lookup.specs.Lookup.{Sought};
 ghost use Rattle.lookup_hints.specs.Hints.{bit_count, scaled_bits, scale_of, step_of, hint_at, with_hint, hints_of};
 
@@ -30,7 +30,7 @@ fn bits_for(room: usize) -> u32
 
 // How the distance of the last id from the first is scaled to these bits: to the right, or from 64 on to the left.
 pub fn scale(ids: &[u64], room: usize) -> u32
-    ensures { result ≡ scale_of (entry ids) room }
+    ensures { result ≡ scale_of ids.now room }
 {
     if ids.len() == 0 {
         return 0;
@@ -66,7 +66,7 @@ fn step_of(id: u64, first: u64, scale: u32) -> usize
 }
 
 fn write(short: &mut [u16], at: usize, half: u16)
-    ensures { exit short ≡ set (entry short) at half }
+    ensures { short.new ≡ set short.old at half }
 {
     if at < short.len() {
         short[at] = half;
@@ -75,7 +75,7 @@ fn write(short: &mut [u16], at: usize, half: u16)
 
 // A place is two short numbers.
 fn put(short: &mut [u16], bucket: usize, place: usize)
-    ensures { exit short ≡ with_hint (entry short) bucket place }
+    ensures { short.new ≡ with_hint short.old bucket place }
 {
     if bucket < short.len() / 2 {
         write(short, 2 * bucket, (place % 65536) as u16);
@@ -91,14 +91,14 @@ fn joined(low: u16, high: u16) -> u32
 
 fn hint(short: &[u16], bucket: usize) -> u32
     requires { 2 * bucket + 1 < length short.now }
-    ensures { result ≡ hint_at (entry short) bucket }
+    ensures { result ≡ hint_at short.now bucket }
 {
     joined(short[2 * bucket], short[2 * bucket + 1])
 }
 
 // The hints of a column of ids: from the back, so that the first id of a bucket is what stays.
 pub fn mark(ids: &[u64], short: &mut [u16])
-    ensures { exit short ≡ hints_of (entry ids) (entry short) }
+    ensures { short.new ≡ hints_of ids.now short.old }
 {
     let scale = scale(ids, short.len());
     let mut i = ids.len();
@@ -137,7 +137,7 @@ fn below(a: u64, id: u64) -> usize
 
 // Over those of the next six ids that are below the id sought, without a branch that could be foreseen wrongly.
 fn over_lower(ids: &[u64], id: u64, at: usize) -> usize
-    ensures { result ≤ max at (length (entry ids)) }
+    ensures { result ≤ max at (length ids.now) }
 {
     if ids.len() < 6 {
         return at;
@@ -157,7 +157,7 @@ fn part_of(step: usize) -> u16
 }
 
 fn guess(ids: &[u64], id: u64, short: &[u16], scale: u32) -> usize
-    ensures { result ≤ max (length (entry ids)) 4294967295 }
+    ensures { result ≤ max (length ids.now) 4294967295 }
 {
     if ids.len() == 0 {
         return 0;
@@ -179,7 +179,7 @@ fn guess(ids: &[u64], id: u64, short: &[u16], scale: u32) -> usize
 
 // The lookup on a column that rises, from its hint: where the hints are the column's own, few looks at the ids, most of them at neighbours.
 pub fn find_hinted(ids: &[u64], id: u64, short: &[u16], scale: u32) -> Found
-    ensures { Sought (entry ids) id result }
+    ensures { Sought ids.now id result }
 {
     let at = guess(ids, id, short, scale);
     if at < ids.len() {

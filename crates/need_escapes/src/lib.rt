@@ -1,8 +1,8 @@
 // The need of buffer 7 where more fields are listed than there are codes and buffer 9 is too short to rank them. Such a build ends refused, by 7 or by 9:
 // which of them needs the exact count, and that takes only the code table.
+#![tactic(auto)]
 ghost use Rattle.std.specs.Prelude.{◌≡◌, ◌+◌, ◌-◌, ◌≤◌, min, length};
 ghost use Rattle.columns.specs.Columns.{zeros};
-ghost use Rattle.columns.specs.Loans.{entry, exit};
 ghost use Rattle.rules.specs.Labels.{coded};
 ghost use Rattle.labels.specs.Coding.{Room, LaidOut};
 ghost use Rattle.labels.specs.Fields.{first};
@@ -29,7 +29,7 @@ fn wide(uses: u16) -> usize
 // How often each label is used, up to 65,535, by its place in the table.
 fn count_capped(labels: &[u32], names: usize, table: &mut [u16])
     requires { Room names table.old }
-    ensures { exit table ≡ capped names (entry table) (entry labels) }
+    ensures { table.new ≡ capped names table.old labels.now }
 {
     let mut i = 0;
     while i < labels.len() {
@@ -42,7 +42,7 @@ fn count_capped(labels: &[u32], names: usize, table: &mut [u16])
 // How many names, and the loader, are used more than `times` times.
 fn used_more(table: &[u16], names: usize, times: usize) -> usize
     requires { Room names table.now }
-    ensures { result ≡ used_more names (entry table) times }
+    ensures { result ≡ used_more names table.now times }
 {
     let mut n = 0;
     let mut i = 0;
@@ -61,7 +61,7 @@ fn used_more(table: &[u16], names: usize, times: usize) -> usize
 // that are too many.
 fn count_uncoded(table: &[u16], names: usize) -> usize
     requires { Room names table.now × (used_more names table.now 65534 ≤ 32767) }
-    ensures { Layered names (entry table) result }
+    ensures { Layered names table.now result }
 {
     let mut rows: usize = 0;
     let mut times = 0;
@@ -79,7 +79,7 @@ fn count_uncoded(table: &[u16], names: usize) -> usize
 pub fn slow_escapes(offsets: &[u64], labels: &[u32], names: usize, table: &mut [u16]) -> usize
     requires room { Room names table.old × LaidOut offsets.now (length labels.now) }
     requires known_labels { KnownLabels names labels.now × (length labels.now ≤ 268435456) }
-    ensures { Escaped (coded (first names (entry labels)) (entry offsets) (entry labels) (length (entry offsets) - 1)) (entry table) result (exit table) }
+    ensures { Escaped (coded (first names labels.now) offsets.now labels.now (length offsets.now - 1)) table.old result table.new }
 {
     columns::zero_u16(table, 0);
     let elements = label_codes::count_escapes(offsets, labels, names, table);

@@ -2,7 +2,6 @@
 ghost use Rattle.std.specs.Prelude.{◌≡◌, [], false, ℕ, ◌+◌, ◌^◌, ◌≤◌, ◌<◌, length};
 ghost use Rattle.columns.specs.Lists.{tab, ◌!◌};
 ghost use Rattle.columns.specs.Ranks.{Rises};
-ghost use Rattle.columns.specs.Loans.{entry};
 ghost use Rattle.index.specs.Copied.{ids_of};
 ghost use Rattle.edge_append.specs.Held.{copied_slot, SlotsIn};
 ghost use Rattle.need_weak.specs.Pairs.{pairs_in, Few, copied_pairs, copied_total, ObjectsIn};
@@ -24,8 +23,8 @@ fn slots(
     base: u64,
 ) -> usize
     requires { Rises ids.now × (first + count ≤ length slot_weak.now) × (start + count < 2 ^ 64) }
-    ensures { Few (pairs_in (entry ids) (tab (copied_slot (ids_of (entry codes) (entry escape_places) (entry escape_ids) base) start []
-        (entry slot_weak) false first) count)) count result }
+    ensures { Few (pairs_in ids.now (tab (copied_slot (ids_of codes.now escape_places.now escape_ids.now base) start []
+        slot_weak.now false first) count)) count result }
 {
     let mut n = 0;
     let mut k = 0;
@@ -59,8 +58,8 @@ fn object(
     policy: rules::ReferencePolicy,
 ) -> usize
     requires { Rises ids.now × SlotsIn class_kinds.now slot_starts.now slot_ends.now (length slot_weak.now) (length slot_weak.now) kind class start }
-    ensures { Few (copied_pairs (entry ids) (ids_of (entry codes) (entry escape_places) (entry escape_ids) base) start (entry class_kinds)
-        (entry slot_starts) (entry slot_ends) (entry slot_weak) policy kind class) (length (entry slot_weak)) result }
+    ensures { Few (copied_pairs ids.now (ids_of codes.now escape_places.now escape_ids.now base) start class_kinds.now
+        slot_starts.now slot_ends.now slot_weak.now policy kind class) (length slot_weak.now) result }
 {
     if kind != rules::Kind::INSTANCE {
         return 0;
@@ -103,9 +102,9 @@ pub fn count_weak_copied(
     requires objects_in { ObjectsIn ids.now kinds.now classes.now starts.now × (length slot_weak.now ≤ 268435456) }
     requires by_index { (o : ℕ) → o < length ids.now → SlotsIn class_kinds.now slot_starts.now slot_ends.now (length slot_weak.now)
         (length slot_weak.now) (kinds.now ! o) (classes.now ! o) (starts.now ! o) }
-    ensures { result ≡ copied_total (entry ids) (entry kinds) (entry classes) (entry starts)
-        (ids_of (entry codes) (entry escape_places) (entry escape_ids) base) (entry class_kinds) (entry slot_starts) (entry slot_ends)
-        (entry slot_weak) policy (length (entry ids)) }
+    ensures { result ≡ copied_total ids.now kinds.now classes.now starts.now
+        (ids_of codes.now escape_places.now escape_ids.now base) class_kinds.now slot_starts.now slot_ends.now
+        slot_weak.now policy (length ids.now) }
 {
     let mut n: usize = 0;
     let mut o = 0;

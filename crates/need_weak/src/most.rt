@@ -1,7 +1,6 @@
 // The most weak pairs that there can be, by either route: the weak slots, whatever ids they hold. No id is read and nothing is looked up.
 ghost use Rattle.std.specs.Prelude.{◌≡◌, false, cond, not, ℕ, ◌+◌, ◌≤◌, ◌<◌, eqb, length};
 ghost use Rattle.columns.specs.Lists.{◌!◌, one, total, any};
-ghost use Rattle.columns.specs.Loans.{entry};
 ghost use Rattle.edge_append.specs.Held.{SlotsIn};
 ghost use Rattle.need_weak.specs.Pairs.{Few, weak_at, plain_weak, most_pairs, most_weak};
 
@@ -15,7 +14,7 @@ fn one_weak(weak: u8) -> usize
 // The weak slots of the first `count` from `first` on.
 fn slots(slot_weak: &[u8], first: usize, count: usize) -> usize
     requires { first + count ≤ length slot_weak.now }
-    ensures { Few (total (weak_at (entry slot_weak) first) count) count result }
+    ensures { Few (total (weak_at slot_weak.now first) count) count result }
 {
     let mut n = 0;
     let mut k = 0;
@@ -35,7 +34,7 @@ fn class_weak(
     class: usize,
 ) -> bool
     requires { class < length class_kinds.now }
-    ensures { result ≡ plain_weak (entry class_kinds) (entry slot_starts) (entry slot_ends) (entry slot_weak) class }
+    ensures { result ≡ plain_weak class_kinds.now slot_starts.now slot_ends.now slot_weak.now class }
 {
     if class_kinds[class] != rules::RefKind::NONE {
         return false;
@@ -59,7 +58,7 @@ fn class_weak(
 
 // Whether any class is: hardly ever, and then most instances need no look at their slots.
 fn plain_weak(class_kinds: &[u8], slot_starts: &[u32], slot_ends: &[u32], slot_weak: &[u8]) -> bool
-    ensures { result ≡ any (plain_weak (entry class_kinds) (entry slot_starts) (entry slot_ends) (entry slot_weak)) (length (entry class_kinds)) }
+    ensures { result ≡ any (plain_weak class_kinds.now slot_starts.now slot_ends.now slot_weak.now) (length class_kinds.now) }
 {
     let mut class = 0;
     while class < class_kinds.len() {
@@ -95,7 +94,7 @@ fn object(
 ) -> usize
     requires slots_in { SlotsIn class_kinds.now slot_starts.now slot_ends.now (length slot_weak.now) (length slot_weak.now) kind class 0 }
     requires mixed_value { mixed ≡ any (plain_weak class_kinds.now slot_starts.now slot_ends.now slot_weak.now) (length class_kinds.now) }
-    ensures { Few (most_pairs (entry class_kinds) (entry slot_starts) (entry slot_ends) (entry slot_weak) policy kind class) (length (entry slot_weak)) result }
+    ensures { Few (most_pairs class_kinds.now slot_starts.now slot_ends.now slot_weak.now policy kind class) (length slot_weak.now) result }
 {
     if kind != rules::Kind::INSTANCE {
         return 0;
@@ -124,7 +123,7 @@ pub fn most_weak(
     requires kinds_len_bound { (length kinds.now ≤ 67108864) × (length kinds.now ≤ length classes.now) × (length slot_weak.now ≤ 268435456) }
     requires by_index { (o : ℕ) → o < length kinds.now → SlotsIn class_kinds.now slot_starts.now slot_ends.now (length slot_weak.now)
         (length slot_weak.now) (kinds.now ! o) (classes.now ! o) 0 }
-    ensures { result ≡ most_weak (entry kinds) (entry classes) (entry class_kinds) (entry slot_starts) (entry slot_ends) (entry slot_weak) policy (length (entry kinds)) }
+    ensures { result ≡ most_weak kinds.now classes.now class_kinds.now slot_starts.now slot_ends.now slot_weak.now policy (length kinds.now) }
 {
     let mixed = plain_weak(class_kinds, slot_starts, slot_ends, slot_weak);
     let mut n: usize = 0;

@@ -2,7 +2,6 @@
 ghost use Rattle.std.specs.Prelude.{◌≡◌, [], false, ℕ, ◌+◌, ◌≤◌, ◌<◌, ltb, length};
 ghost use Rattle.columns.specs.Lists.{tab, ◌!◌};
 ghost use Rattle.columns.specs.Ranks.{Rises};
-ghost use Rattle.columns.specs.Loans.{entry};
 ghost use Rattle.edge_append.specs.Held.{SlotsIn};
 ghost use Rattle.edge_append.specs.Raw.{raw_slot, slots_read, BodyIn};
 ghost use Rattle.need_weak.specs.Pairs.{pairs_in, Few, raw_pairs, raw_total, ObjectsIn};
@@ -33,8 +32,8 @@ fn slots(
     size: usize,
 ) -> usize
     requires { Rises ids.now × (first + count ≤ length slot_offsets.now) × (first + count ≤ length slot_weak.now) × BodyIn (length bytes.now) size start body }
-    ensures { Few (pairs_in (entry ids) (tab (raw_slot (entry bytes) size start (entry slot_offsets) [] (entry slot_weak) false first)
-        (slots_read (entry slot_offsets) size body first count))) count result }
+    ensures { Few (pairs_in ids.now (tab (raw_slot bytes.now size start slot_offsets.now [] slot_weak.now false first)
+        (slots_read slot_offsets.now size body first count))) count result }
 {
     let mut n = 0;
     let mut k = 0;
@@ -73,8 +72,8 @@ fn object(
 ) -> usize
     requires rises { Rises ids.now × SlotsIn class_kinds.now slot_starts.now slot_ends.now (length slot_offsets.now) (length slot_weak.now) kind class 0 }
     requires body_in { kind ≡ 0 → BodyIn (length bytes.now) size start body }
-    ensures { Few (raw_pairs (entry ids) (entry bytes) size start body (entry class_kinds) (entry slot_starts) (entry slot_ends)
-        (entry slot_offsets) (entry slot_weak) policy kind class) (length (entry slot_weak)) result }
+    ensures { Few (raw_pairs ids.now bytes.now size start body class_kinds.now slot_starts.now slot_ends.now
+        slot_offsets.now slot_weak.now policy kind class) (length slot_weak.now) result }
 {
     if kind != rules::Kind::INSTANCE {
         return 0;
@@ -118,8 +117,8 @@ pub fn count_weak_raw(
     requires by_index { (o : ℕ) → o < length ids.now → SlotsIn class_kinds.now slot_starts.now slot_ends.now (length slot_offsets.now)
         (length slot_weak.now) (kinds.now ! o) (classes.now ! o) 0 }
     requires by_index_2 { (o : ℕ) → o < length ids.now → kinds.now ! o ≡ 0 → BodyIn (length bytes.now) size (starts.now ! o) (bodies.now ! o) }
-    ensures { result ≡ raw_total (entry ids) (entry kinds) (entry classes) (entry starts) (entry bodies) (entry bytes) size (entry class_kinds)
-        (entry slot_starts) (entry slot_ends) (entry slot_offsets) (entry slot_weak) policy (length (entry ids)) }
+    ensures { result ≡ raw_total ids.now kinds.now classes.now starts.now bodies.now bytes.now size class_kinds.now
+        slot_starts.now slot_ends.now slot_offsets.now slot_weak.now policy (length ids.now) }
 {
     let mut n: usize = 0;
     let mut o = 0;

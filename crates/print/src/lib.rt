@@ -1,5 +1,6 @@
 // What the programs write: words, numbers, and columns of numbers with a space before each. No contract can say what C's `write` does with the bytes.
 // So each function answers how many bytes it handed over, modulo 2^64. One that leaves out a part of its text would answer another number.
+#![tactic(auto)]
 ghost use Rattle.std.specs.Prelude.{◌≡◌, length};
 ghost use Rattle.print.specs.Printed.{digit_count, spaced_bytes, line_bytes, column_bytes};
 

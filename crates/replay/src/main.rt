@@ -5,6 +5,7 @@
 // and words outside brackets are remarks. The columns hold nines before a build. Of a build that is done every column is written whole, with what is behind the
 // used part, then each object's span, edges and weak targets, the answers, and the incoming side; of a refusal its number and place, and whether all that was lent is zero.
 // A text that is malformed is told with the place, and nothing more is built.
+#![tactic(auto)]
 mod rooms;
 mod routes;
 

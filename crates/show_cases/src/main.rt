@@ -3,6 +3,7 @@
 // A title in quotes begins a case and is written. A word with a list in brackets behind it names a column or a number, which the list stands for in this case;
 // `keep` makes the lists as they stand those that every later case begins with. Any other word is a call that is made with them. What stands before the first
 // title is a remark. A text that is malformed is told with the place, and nothing more is run.
+#![tactic(auto)]
 mod answer;
 mod checks;
 mod hand;

@@ -1,4 +1,5 @@
 // The worked dump of document 01, case by case.
+#![tactic(auto)]
 mod blocked;
 mod copied;
 mod questions;

@@ -1,8 +1,8 @@
 // Filling the three slot columns from slot rows: lent as three columns, or as a slice of structs.
+#![tactic(auto)]
 mod step;
 
 ghost use Rattle.std.specs.Prelude.{length};
-ghost use Rattle.columns.specs.Loans.{entry, exit};
 ghost use Rattle.slot_rows.specs.Rows.{Filling, rows_of};
 
 // One slot of a class, as a host lends it.
@@ -30,8 +30,8 @@ pub fn fill_columns(
     labels: &mut [u32],
     weak: &mut [u8],
 ) -> Filled
-    ensures { Filling (rows_of (entry from_offsets) (entry from_labels) (entry from_weak)) (length (entry offsets))
-        (length (entry labels)) (length (entry weak)) result (exit offsets) (exit labels) (exit weak) }
+    ensures { Filling (rows_of from_offsets.now from_labels.now from_weak.now) (length offsets.old)
+        (length labels.old) (length weak.old) result offsets.new labels.new weak.new }
 {
     let n = step::row_count(from_offsets.len(), from_labels.len(), from_weak.len());
     let room = step::room_for(n, offsets.len(), labels.len(), weak.len());
@@ -48,7 +48,7 @@ pub fn fill_rows(
     labels: &mut [u32],
     weak: &mut [u8],
 ) -> Filled
-    ensures { Filling (entry rows) (length (entry offsets)) (length (entry labels)) (length (entry weak)) result (exit offsets) (exit labels) (exit weak) }
+    ensures { Filling rows.now (length offsets.old) (length labels.old) (length weak.old) result offsets.new labels.new weak.new }
 {
     let n = rows.len();
     let room = step::room_for(n, offsets.len(), labels.len(), weak.len());

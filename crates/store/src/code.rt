@@ -2,7 +2,6 @@
 ghost use Rattle.std.specs.Prelude.{◌≡◌, ◌≤◌, ◌<◌, ◌*◌, ◌+◌, min, length};
 ghost use Rattle.columns.specs.Lists.{◌!◌};
 ghost use Rattle.columns.specs.Columns.{accepts, over, zeros};
-ghost use Rattle.columns.specs.Loans.{entry, exit};
 ghost use Rattle.store.specs.Blocked.{above_at, first_low, coding_says, coded_says, long_rows, Accepted, Filled, bases_to, short_to, LongWritten, Emptied};
 
 use super::CodedOffsets;
@@ -10,7 +9,7 @@ use super::CodedOffsets;
 // How far the number at i is above its block's base.
 fn above(values: &[u64], i: usize) -> u64
     requires { i < length values.now }
-    ensures { result ≡ above_at (entry values) i }
+    ensures { result ≡ above_at values.now i }
 {
     let base = values[i / 256 * 256];
     let v = values[i];
@@ -22,7 +21,7 @@ fn above(values: &[u64], i: usize) -> u64
 
 // The first place whose number is below its block's base, or the length.
 fn first_low(values: &[u64]) -> usize
-    ensures { result ≡ first_low (entry values) }
+    ensures { result ≡ first_low values.now }
 {
     let mut i = 0;
     while i < values.len() {
@@ -36,7 +35,7 @@ fn first_low(values: &[u64]) -> usize
 
 // How many rows the long list needs.
 pub fn count_long(values: &[u64]) -> usize
-    ensures { result ≡ long_rows (entry values) }
+    ensures { result ≡ long_rows values.now }
 {
     let mut rows = 0;
     let mut i = 0;
@@ -53,7 +52,7 @@ pub fn count_long(values: &[u64]) -> usize
 
 // The answer, from the numbers and the lengths lent for the four columns.
 pub(crate) fn judge(values: &[u64], nb: usize, ns: usize, na: usize, nv: usize) -> CodedOffsets
-    ensures { coded_says result ≡ coding_says (entry values) nb ns na nv }
+    ensures { coded_says result ≡ coding_says values.now nb ns na nv }
 {
     let n = values.len();
     if 67108865 < n {
@@ -117,7 +116,7 @@ pub(crate) fn rows_of(r: CodedOffsets) -> usize
 
 fn write_bases(values: &[u64], bases: &mut [u64], blocks: usize)
     requires { (blocks ≤ length bases.old) × (blocks * 256 ≤ length values.now + 255) }
-    ensures { exit bases ≡ over (bases_to (entry values) blocks) (entry bases) }
+    ensures { bases.new ≡ over (bases_to values.now blocks) bases.old }
 {
     let mut b = 0;
     while b < blocks {
@@ -135,7 +134,7 @@ fn short_of(d: u64) -> u16
 
 fn write_short(values: &[u64], short: &mut [u16])
     requires { length values.now ≤ length short.old }
-    ensures { exit short ≡ over (short_to (entry values) (length (entry values))) (entry short) }
+    ensures { short.new ≡ over (short_to values.now (length values.now)) short.old }
 {
     let mut i = 0;
     while i < values.len() {
@@ -147,7 +146,7 @@ fn write_short(values: &[u64], short: &mut [u16])
 // The long rows, up to the last: where there are none, no number is read.
 fn write_long(values: &[u64], rows: usize, long_at: &mut [u32], long_value: &mut [u64])
     requires { (length values.now ≤ 67108865) × (rows ≡ long_rows values.now) × (rows ≤ length long_at.old) × (rows ≤ length long_value.old) }
-    ensures { LongWritten (entry values) (entry long_at) (entry long_value) (exit long_at) (exit long_value) }
+    ensures { LongWritten values.now long_at.old long_value.old long_at.new long_value.new }
 {
     let mut k = 0;
     let mut i = 0;
@@ -174,8 +173,8 @@ pub fn write_all(
 )
     requires rows_value { rows ≡ long_rows values.now }
     requires accepted { Accepted values.now (length bases.old) (length short.old) (length long_at.old) (length long_value.old) }
-    ensures { Filled (entry values) (length (entry bases)) (length (entry short)) (length (entry long_at)) (length (entry long_value))
-        (exit bases) (exit short) (exit long_at) (exit long_value) }
+    ensures { Filled values.now (length bases.old) (length short.old) (length long_at.old) (length long_value.old)
+        bases.new short.new long_at.new long_value.new }
 {
     let n = values.len();
     let blocks = (n + 255) / 256;
@@ -190,8 +189,8 @@ pub fn write_all(
 
 // All four columns zero, as after a refusal.
 pub fn zero_all(bases: &mut [u64], short: &mut [u16], long_at: &mut [u32], long_value: &mut [u64])
-    ensures { Emptied (length (entry bases)) (length (entry short)) (length (entry long_at)) (length (entry long_value))
-        (exit bases) (exit short) (exit long_at) (exit long_value) }
+    ensures { Emptied (length bases.old) (length short.old) (length long_at.old) (length long_value.old)
+        bases.new short.new long_at.new long_value.new }
 {
     columns::zero_u64(bases, 0);
     columns::zero_u16(short, 0);

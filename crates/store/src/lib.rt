@@ -1,8 +1,8 @@
 // Offsets in two bytes each above a base for every 256 of them; one too far above its base is kept whole in a long list, by place (`Blocked`).
+#![tactic(auto)]
 pub mod code;
 
 ghost use Rattle.std.specs.Prelude.{length};
-ghost use Rattle.columns.specs.Loans.{entry, exit};
 ghost use Rattle.store.specs.Blocked.{Coding};
 
 pub use store_read::{Offset, offset_at, short_at};
@@ -28,8 +28,8 @@ pub fn code_offsets(
     long_at: &mut [u32],
     long_value: &mut [u64],
 ) -> CodedOffsets
-    ensures { Coding (entry values) (length (entry bases)) (length (entry short)) (length (entry long_at)) (length (entry long_value)) result (exit bases)
-        (exit short) (exit long_at) (exit long_value) }
+    ensures { Coding values.now (length bases.old) (length short.old) (length long_at.old) (length long_value.old) result bases.new
+        short.new long_at.new long_value.new }
 {
     let r = code::judge(
         values,

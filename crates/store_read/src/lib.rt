@@ -1,8 +1,8 @@
 // One offset read back from its four columns. `store` codes them, and passes this on.
+#![tactic(auto)]
 mod read;
 
 ghost use Rattle.std.specs.Prelude.{◌≡◌};
-ghost use Rattle.columns.specs.Loans.{entry};
 ghost use Rattle.store_read.specs.Back.{offset_says, blocked_of, read_back};
 
 pub use read::short_at;
@@ -23,7 +23,7 @@ pub fn offset_at(
     long_value: &[u64],
     i: usize,
 ) -> Offset
-    ensures { offset_says result ≡ read_back (blocked_of (entry bases) (entry short) (entry long_at) (entry long_value)) i }
+    ensures { offset_says result ≡ read_back (blocked_of bases.now short.now long_at.now long_value.now) i }
 {
     if short.len() <= i {
         return Offset::Index(i);

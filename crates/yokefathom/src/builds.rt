@@ -1,5 +1,5 @@
 // The two builds.
-ghost use Rattle.columns.specs.Loans.{entry, exit};
+ghost use Rattle.columns.specs.Loans.{now_of, old_of, new_of};
 ghost use Rattle.rules.specs.Built.{build_left};
 ghost use Rattle.rules.specs.Tables.{object_table, class_table, slot_table, static_table, schema_of, copied_route, raw_route, input_of, room_of, coding_room, coding_left};
 ghost use Rattle.yokefathom.specs.Calls.{policy_of, BuildTold};
@@ -56,15 +56,15 @@ pub extern "C" fn yokefathom_build_copied(
     ranking: &mut [u64],
     answer: &mut [u64; 9],
 )
-    ensures { let schema = schema_of (class_table entry class_ids loaders dumped class_kinds slot_starts slot_ends static_starts static_ends)
-        (slot_table entry slot_offsets slot_labels slot_weak) (static_table entry static_names static_types static_values) names in
-        let route = copied_route entry codes escape_places escape_ids base starts in
-        let input = input_of (object_table entry ids kinds classes lengths) schema route (entry roots) (policy_of keep_soft keep_weak) in
-        let room = room_of entry targets labels weak_from weak_to roots_out working
-        (coding_room entry bases short long_at long_value fields table escape_at escape_label edge_codes counting ranking) in
-        let coded = coding_left exit bases short long_at long_value fields table escape_at escape_label edge_codes counting ranking in
-        BuildTold (build_left input room) (exit answer)
-        (exit targets) (exit labels) (exit weak_from) (exit weak_to) (exit roots_out) (exit working) coded (exit account) }
+    ensures { let schema = schema_of (class_table now_of class_ids loaders dumped class_kinds slot_starts slot_ends static_starts static_ends)
+        (slot_table now_of slot_offsets slot_labels slot_weak) (static_table now_of static_names static_types static_values) names in
+        let route = copied_route now_of codes escape_places escape_ids base starts in
+        let input = input_of (object_table now_of ids kinds classes lengths) schema route roots.now (policy_of keep_soft keep_weak) in
+        let room = room_of old_of targets labels weak_from weak_to roots_out working
+        (coding_room old_of bases short long_at long_value fields table escape_at escape_label edge_codes counting ranking) in
+        let coded = coding_left new_of bases short long_at long_value fields table escape_at escape_label edge_codes counting ranking in
+        BuildTold (build_left input room) answer.new
+        targets.new labels.new weak_from.new weak_to.new roots_out.new working.new coded account.new }
 {
     let built = build::build_copied(
         ids,
@@ -168,15 +168,15 @@ pub extern "C" fn yokefathom_build_raw(
     ranking: &mut [u64],
     answer: &mut [u64; 9],
 )
-    ensures { let schema = schema_of (class_table entry class_ids loaders dumped class_kinds slot_starts slot_ends static_starts static_ends)
-        (slot_table entry slot_offsets slot_labels slot_weak) (static_table entry static_names static_types static_values) names in
-        let route = raw_route entry bytes size starts bodies in
-        let input = input_of (object_table entry ids kinds classes lengths) schema route (entry roots) (policy_of keep_soft keep_weak) in
-        let room = room_of entry targets labels weak_from weak_to roots_out working
-        (coding_room entry bases short long_at long_value fields table escape_at escape_label edge_codes counting ranking) in
-        let coded = coding_left exit bases short long_at long_value fields table escape_at escape_label edge_codes counting ranking in
-        BuildTold (build_left input room) (exit answer)
-        (exit targets) (exit labels) (exit weak_from) (exit weak_to) (exit roots_out) (exit working) coded (exit account) }
+    ensures { let schema = schema_of (class_table now_of class_ids loaders dumped class_kinds slot_starts slot_ends static_starts static_ends)
+        (slot_table now_of slot_offsets slot_labels slot_weak) (static_table now_of static_names static_types static_values) names in
+        let route = raw_route now_of bytes size starts bodies in
+        let input = input_of (object_table now_of ids kinds classes lengths) schema route roots.now (policy_of keep_soft keep_weak) in
+        let room = room_of old_of targets labels weak_from weak_to roots_out working
+        (coding_room old_of bases short long_at long_value fields table escape_at escape_label edge_codes counting ranking) in
+        let coded = coding_left new_of bases short long_at long_value fields table escape_at escape_label edge_codes counting ranking in
+        BuildTold (build_left input room) answer.new
+        targets.new labels.new weak_from.new weak_to.new roots_out.new working.new coded account.new }
 {
     let built = build::build_raw(
         ids,

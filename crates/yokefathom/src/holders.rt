@@ -1,6 +1,6 @@
 // Who points here: the incoming side of a graph, made from its finished columns, and the questions on it.
 ghost use Rattle.std.specs.Prelude.{◌≡◌};
-ghost use Rattle.columns.specs.Loans.{entry, exit};
+ghost use Rattle.columns.specs.Loans.{now_of, old_of, new_of};
 ghost use Rattle.rules.specs.Incoming.{in_room, in_left, in_columns, invert_left};
 ghost use Rattle.ask_span.specs.Reading.{count_of};
 ghost use Rattle.ask_span.specs.Graph.{edge_columns};
@@ -29,9 +29,9 @@ pub extern "C" fn yokefathom_invert(
     working: &mut [u64],
     answer: &mut [u64; 4],
 )
-    ensures { let graph = edge_columns entry bases short long_at long_value edge_codes targets fields escape_at escape_label in
-        let left = invert_left graph (in_room entry sources places in_bases in_short in_long_at in_long_value working) in
-        InvertTold left (exit answer) (in_left exit left.says sources places in_bases in_short in_long_at in_long_value working) }
+    ensures { let graph = edge_columns now_of bases short long_at long_value edge_codes targets fields escape_at escape_label in
+        let left = invert_left graph (in_room old_of sources places in_bases in_short in_long_at in_long_value working) in
+        InvertTold left answer.new (in_left new_of left.says sources places in_bases in_short in_long_at in_long_value working) }
 {
     let found = incoming::invert(
         bases,
@@ -67,7 +67,7 @@ pub extern "C" fn yokefathom_in_span(
     in_long_value: &[u64],
     answer: &mut [u64; 4],
 )
-    ensures { exit answer ≡ told 4 (in_span (in_columns entry sources places in_bases in_short in_long_at in_long_value) object) }
+    ensures { answer.new ≡ told 4 (in_span (in_columns now_of sources places in_bases in_short in_long_at in_long_value) object) }
 {
     let found = incoming::span(
         sources,
@@ -94,7 +94,7 @@ pub extern "C" fn yokefathom_in_degree(
     in_long_value: &[u64],
     answer: &mut [u64; 4],
 )
-    ensures { exit answer ≡ told 4 (count_of (in_span (in_columns entry sources places in_bases in_short in_long_at in_long_value) object)) }
+    ensures { answer.new ≡ told 4 (count_of (in_span (in_columns now_of sources places in_bases in_short in_long_at in_long_value) object)) }
 {
     let found = incoming::in_degree(
         sources,
@@ -122,7 +122,7 @@ pub extern "C" fn yokefathom_entry_at(
     in_long_value: &[u64],
     answer: &mut [u64; 4],
 )
-    ensures { exit answer ≡ told 4 (entry_of (in_columns entry sources places in_bases in_short in_long_at in_long_value) object k) }
+    ensures { answer.new ≡ told 4 (entry_of (in_columns now_of sources places in_bases in_short in_long_at in_long_value) object k) }
 {
     let found = incoming::entry_at(
         sources,

@@ -1,5 +1,5 @@
 // A graph from its plain columns.
-ghost use Rattle.columns.specs.Loans.{entry, exit};
+ghost use Rattle.columns.specs.Loans.{now_of, old_of, new_of};
 ghost use Rattle.rules.specs.Built.{parts_left};
 ghost use Rattle.rules.specs.Tables.{class_table, slot_table, static_table, schema_of, coding_room, coding_left};
 ghost use Rattle.from_parts.specs.Parts.{plain_columns};
@@ -43,12 +43,12 @@ pub extern "C" fn yokefathom_from_parts(
     ranking: &mut [u64],
     answer: &mut [u64; 9],
 )
-    ensures { let schema = schema_of (class_table entry class_ids loaders dumped class_kinds slot_starts slot_ends static_starts static_ends)
-        (slot_table entry slot_offsets slot_labels slot_weak) (static_table entry static_names static_types static_values) names in
-        let parts = plain_columns entry offsets targets labels weak_from weak_to roots dangling in
-        let room = coding_room entry bases short long_at long_value fields table escape_at escape_label edge_codes counting ranking in
-        let left = coding_left exit bases short long_at long_value fields table escape_at escape_label edge_codes counting ranking in
-        PartsTold (parts_left schema parts room) (exit answer) left }
+    ensures { let schema = schema_of (class_table now_of class_ids loaders dumped class_kinds slot_starts slot_ends static_starts static_ends)
+        (slot_table now_of slot_offsets slot_labels slot_weak) (static_table now_of static_names static_types static_values) names in
+        let parts = plain_columns now_of offsets targets labels weak_from weak_to roots dangling in
+        let room = coding_room old_of bases short long_at long_value fields table escape_at escape_label edge_codes counting ranking in
+        let left = coding_left new_of bases short long_at long_value fields table escape_at escape_label edge_codes counting ranking in
+        PartsTold (parts_left schema parts room) answer.new left }
 {
     let built = from_parts::from_parts(
         class_ids,

@@ -1,6 +1,6 @@
 // The questions, over the used parts of a graph's columns; nothing is written but the answer.
 ghost use Rattle.std.specs.Prelude.{◌≡◌, length};
-ghost use Rattle.columns.specs.Loans.{entry, exit};
+ghost use Rattle.columns.specs.Loans.{now_of};
 ghost use Rattle.rules.specs.Tables.{offset_columns};
 ghost use Rattle.rules.specs.Each.{each_left};
 ghost use Rattle.ask_span.specs.Reading.{span_of, count_of, weak_rows_of};
@@ -27,7 +27,7 @@ pub extern "C" fn yokefathom_span(
     targets: &[u32],
     answer: &mut [u64; 4],
 )
-    ensures { exit answer ≡ told 4 (span_of (offset_columns entry bases short long_at long_value) (length (entry edge_codes)) (length (entry targets)) object) }
+    ensures { answer.new ≡ told 4 (span_of (offset_columns now_of bases short long_at long_value) (length edge_codes.now) (length targets.now) object) }
 {
     let found = ask_span::span(
         bases, short, long_at, long_value, edge_codes, targets, object,
@@ -48,7 +48,7 @@ pub extern "C" fn yokefathom_edge_count(
     targets: &[u32],
     answer: &mut [u64; 4],
 )
-    ensures { exit answer ≡ told 4 (count_of (span_of (offset_columns entry bases short long_at long_value) (length (entry edge_codes)) (length (entry targets)) object)) }
+    ensures { answer.new ≡ told 4 (count_of (span_of (offset_columns now_of bases short long_at long_value) (length edge_codes.now) (length targets.now) object)) }
 {
     let found = ask_span::edge_count(
         bases, short, long_at, long_value, edge_codes, targets, object,
@@ -66,7 +66,7 @@ pub extern "C" fn yokefathom_weak_referents(
     weak_to: &[u32],
     answer: &mut [u64; 4],
 )
-    ensures { exit answer ≡ told 4 (weak_rows_of (length (entry short)) (entry weak_from) (entry weak_to) object) }
+    ensures { answer.new ≡ told 4 (weak_rows_of (length short.now) weak_from.now weak_to.now object) }
 {
     let found = ask_span::weak_referents(short, weak_from, weak_to, object);
     let says = answer_numbers::weak_referents(found);
@@ -89,8 +89,8 @@ pub extern "C" fn yokefathom_coarse_label(
     escape_label: &[u32],
     answer: &mut [u64; 4],
 )
-    ensures { let graph = edge_columns entry bases short long_at long_value edge_codes targets fields escape_at escape_label in
-        exit answer ≡ told 4 (coarse_at graph object edge) }
+    ensures { let graph = edge_columns now_of bases short long_at long_value edge_codes targets fields escape_at escape_label in
+        answer.new ≡ told 4 (coarse_at graph object edge) }
 {
     let found = ask_label::coarse_label(
         bases,
@@ -125,8 +125,8 @@ pub extern "C" fn yokefathom_exact_label(
     escape_label: &[u32],
     answer: &mut [u64; 4],
 )
-    ensures { let graph = edge_columns entry bases short long_at long_value edge_codes targets fields escape_at escape_label in
-        ExactTold graph object edge (exit answer) }
+    ensures { let graph = edge_columns now_of bases short long_at long_value edge_codes targets fields escape_at escape_label in
+        ExactTold graph object edge answer.new }
 {
     let found = ask_label::exact_label(
         bases,
@@ -161,8 +161,8 @@ pub extern "C" fn yokefathom_label_of(
     escape_label: &[u32],
     answer: &mut [u64; 4],
 )
-    ensures { let graph = edge_columns entry bases short long_at long_value edge_codes targets fields escape_at escape_label in
-        LabelTold graph object target (exit answer) }
+    ensures { let graph = edge_columns now_of bases short long_at long_value edge_codes targets fields escape_at escape_label in
+        LabelTold graph object target answer.new }
 {
     let found = ask_label::label_of(
         bases,
@@ -197,8 +197,8 @@ pub extern "C" fn yokefathom_field(
     escape_label: &[u32],
     answer: &mut [u64; 4],
 )
-    ensures { let graph = edge_columns entry bases short long_at long_value edge_codes targets fields escape_at escape_label in
-        exit answer ≡ told 4 (field_found graph object label) }
+    ensures { let graph = edge_columns now_of bases short long_at long_value edge_codes targets fields escape_at escape_label in
+        answer.new ≡ told 4 (field_found graph object label) }
 {
     let found = ask_field::field(
         bases,
@@ -235,8 +235,8 @@ pub extern "C" fn yokefathom_referent(
     weak_to: &[u32],
     answer: &mut [u64; 4],
 )
-    ensures { let graph = graph_columns entry bases short long_at long_value edge_codes targets fields escape_at escape_label weak_from weak_to in
-        exit answer ≡ told 4 (referent_found graph object label) }
+    ensures { let graph = graph_columns now_of bases short long_at long_value edge_codes targets fields escape_at escape_label weak_from weak_to in
+        answer.new ≡ told 4 (referent_found graph object label) }
 {
     let found = ask_field::referent(
         bases,
@@ -274,8 +274,8 @@ pub extern "C" fn yokefathom_object_edges(
     own_labels: &mut [u32],
     answer: &mut [u64; 4],
 )
-    ensures { let graph = edge_columns entry bases short long_at long_value edge_codes targets fields escape_at escape_label in
-        EdgesTold (edges_found graph object (length (entry own_targets)) (length (entry own_labels))) (exit answer) (exit own_targets) (exit own_labels) }
+    ensures { let graph = edge_columns now_of bases short long_at long_value edge_codes targets fields escape_at escape_label in
+        EdgesTold (edges_found graph object (length own_targets.old) (length own_labels.old)) answer.new own_targets.new own_labels.new }
 {
     let found = ask_edges::object_edges(
         bases,
@@ -313,8 +313,8 @@ pub extern "C" fn yokefathom_field_of_each(
     found: &mut [u8],
     answer: &mut [u64; 4],
 )
-    ensures { let graph = edge_columns entry bases short long_at long_value edge_codes targets fields escape_at escape_label in
-        EachTold (each_left (asks graph label) (entry objects) (length (entry own_targets)) (length (entry found))) (exit answer) (exit own_targets) (exit found) }
+    ensures { let graph = edge_columns now_of bases short long_at long_value edge_codes targets fields escape_at escape_label in
+        EachTold (each_left (asks graph label) objects.now (length own_targets.old) (length found.old)) answer.new own_targets.new found.new }
 {
     let asked = ask_each::field(
         bases,
@@ -344,7 +344,7 @@ pub extern "C" fn yokefathom_lean_span(
     codes: usize,
     targets: usize,
 ) -> u64
-    ensures { result ≡ span_number (span_of (short_of (entry bases) (entry short)) codes targets object) }
+    ensures { result ≡ span_number (span_of (short_of bases.now short.now) codes targets object) }
 {
     let found = ask_short::span(bases, short, codes, targets, object);
     answer_replies::span_number(found)
@@ -360,7 +360,7 @@ pub extern "C" fn yokefathom_lean_label_of(
     targets: &[u32],
     fields: &[u32],
 ) -> u64
-    ensures { result ≡ reply_of (label_found (lean_edges entry bases short edge_codes targets fields) object target) }
+    ensures { result ≡ reply_of (label_found (lean_edges now_of bases short edge_codes targets fields) object target) }
 {
     let found = ask_short::label::label_of(
         bases, short, edge_codes, targets, fields, object, target,
@@ -378,7 +378,7 @@ pub extern "C" fn yokefathom_lean_field(
     targets: &[u32],
     fields: &[u32],
 ) -> u64
-    ensures { result ≡ reply_of (field_found (lean_edges entry bases short edge_codes targets fields) object label) }
+    ensures { result ≡ reply_of (field_found (lean_edges now_of bases short edge_codes targets fields) object label) }
 {
     let found = ask_short_field::field(bases, short, edge_codes, targets, fields, object, label);
     answer_replies::field_reply(found)
@@ -396,7 +396,7 @@ pub extern "C" fn yokefathom_lean_referent(
     weak_from: &[u32],
     weak_to: &[u32],
 ) -> u64
-    ensures { result ≡ reply_of (referent_found (lean_columns entry bases short edge_codes targets fields weak_from weak_to) object label) }
+    ensures { result ≡ reply_of (referent_found (lean_columns now_of bases short edge_codes targets fields weak_from weak_to) object label) }
 {
     let found = ask_short_field::referent(
         bases, short, edge_codes, targets, fields, weak_from, weak_to, object, label,
@@ -416,8 +416,8 @@ pub extern "C" fn yokefathom_lean_object_edges(
     own_targets: &mut [u32],
     own_labels: &mut [u32],
 ) -> u64
-    ensures { let graph = lean_edges entry bases short edge_codes targets fields in
-        EdgesReplied (edges_found graph object (length (entry own_targets)) (length (entry own_labels))) result (exit own_targets) (exit own_labels) }
+    ensures { let graph = lean_edges now_of bases short edge_codes targets fields in
+        EdgesReplied (edges_found graph object (length own_targets.old) (length own_labels.old)) result own_targets.new own_labels.new }
 {
     ask_short_edges::object_edges(
         bases,

@@ -1,6 +1,5 @@
 // The three slot columns of a schema from slot rows, which a host lends as structs or as columns.
 ghost use Rattle.std.specs.Prelude.{◌≡◌, length};
-ghost use Rattle.columns.specs.Loans.{entry, exit};
 ghost use Rattle.slot_rows.specs.Rows.{filled_says, left, rows_of};
 ghost use Rattle.answer_numbers.specs.Told.{told};
 ghost use Rattle.yokefathom.specs.Calls.{SlotsTold};
@@ -16,8 +15,8 @@ pub extern "C" fn yokefathom_fill_rows(
     weak: &mut [u8],
     answer: &mut [u64; 4],
 )
-    ensures { SlotsTold (left (entry rows) (length (entry offsets)) (length (entry labels)) (length (entry weak)))
-        (exit answer) (exit offsets) (exit labels) (exit weak) }
+    ensures { SlotsTold (left rows.now (length offsets.old) (length labels.old) (length weak.old))
+        answer.new offsets.new labels.new weak.new }
 {
     let filled = slot_rows::fill_rows(rows, offsets, labels, weak);
     tell(filled, answer);
@@ -34,9 +33,9 @@ pub extern "C" fn yokefathom_fill_columns(
     weak: &mut [u8],
     answer: &mut [u64; 4],
 )
-    ensures { let rows = rows_of (entry from_offsets) (entry from_labels) (entry from_weak) in
-        let filled = left rows (length (entry offsets)) (length (entry labels)) (length (entry weak)) in
-        SlotsTold filled (exit answer) (exit offsets) (exit labels) (exit weak) }
+    ensures { let rows = rows_of from_offsets.now from_labels.now from_weak.now in
+        let filled = left rows (length offsets.old) (length labels.old) (length weak.old) in
+        SlotsTold filled answer.new offsets.new labels.new weak.new }
 {
     let filled = slot_rows::fill_columns(
         from_offsets,
@@ -51,7 +50,7 @@ pub extern "C" fn yokefathom_fill_columns(
 
 // What filling answered, as numbers.
 fn tell(filled: Filled, answer: &mut [u64; 4])
-    ensures { exit answer ≡ told 4 (filled_says filled) }
+    ensures { answer.new ≡ told 4 (filled_says filled) }
 {
     *answer = answer_builds::filled(filled);
 }

@@ -1,0 +1,463 @@
+#!/usr/bin/env python3
+"""Turns the proofs of functions from the older form, a Proof.antt that calls `tie.spec`, to Invariants.antt and Answers.antt.
+
+usage: python3 tools/answers.py NAMES CRATE..
+
+NAMES is the names.json of `rt check --generated DIR --old-names` in the crate. What it can't turn it says on a line that begins 'look:'.
+"""
+
+import json
+import os
+import re
+import sys
+
+W = r"[^\s(){}.;,@\"«»\[\]]+"
+PATH = re.compile(rf"(?<![\w.\-'₀-₉])({W})((?:\.{W})+)")
+
+
+def norm(name):
+    return name.replace("_", "-")
+
+
+def split_decls(text):
+    """The `use` lines, and the declarations: (comment lines, name, signature, mark, unfolding lines, clause lines)."""
+    head, uses, decls, notes = [], [], [], []
+    lines = text.split("\n")
+    i = 0
+    while i < len(lines):
+        line = lines[i]
+        if line.startswith("use "):
+            use = line
+            while use.count("{") > use.count("}"):
+                i += 1
+                use += " " + lines[i].strip()
+            uses.append(use)
+        elif line.startswith("--"):
+            (head if not uses and not decls else notes).append(line)
+        elif line.strip():
+            block = [line]
+            while i + 1 < len(lines) and (not lines[i + 1].strip() or lines[i + 1][0] in " \t" or lines[i + 1].startswith(")") or lines[i + 1].startswith("}") or lines[i + 1].startswith("unfolding ") or (block and same_name(block, lines[i + 1]))):
+                i += 1
+                block.append(lines[i])
+            while block and not block[-1].strip():
+                block.pop()
+            decls.append(decl(notes, block))
+            notes = []
+        i += 1
+    return head, uses, decls
+
+
+def name_of(line):
+    m = re.match(rf"((?:abbrev |pub |unfoldable )*)({W})(?: \{{[^}}]*\}})? :(?=\s|$)", line)
+    return m
+
+
+def same_name(block, line):
+    m = name_of(block[0])
+    return m and re.match(re.escape(m[2]) + r"(?=\s)", line) and not name_of(line)
+
+
+def decl(notes, block):
+    m = name_of(block[0])
+    if not m:
+        return {"notes": notes, "name": None, "text": block}
+    sig, unfolding, clauses = [block[0][m.end() :].strip()], [], []
+    for line in block[1:]:
+        if line.startswith("unfolding "):
+            unfolding.append(line)
+        elif same_name(block, line) or clauses:
+            clauses.append(line)
+        else:
+            sig.append(line.strip())
+    return {"notes": notes, "name": m[2], "mark": m[1], "sig": " ".join(sig), "unfolding": unfolding, "clauses": clauses, "text": block}
+
+
+def args_of(text):
+    """The arguments of an application, in its order."""
+    out, i = [], 0
+    while i < len(text):
+        if text[i].isspace():
+            i += 1
+            continue
+        if text[i] in "({":
+            depth, j = 0, i
+            while True:
+                depth += {"(": 1, "{": 1, ")": -1, "}": -1}.get(text[j], 0)
+                j += 1
+                if not depth:
+                    break
+            while j < len(text) and not text[j].isspace() and text[j] not in "()":
+                j += 1
+        else:
+            j = i
+            while j < len(text) and not text[j].isspace() and text[j] not in "()":
+                j += 1
+        out.append(text[i:j])
+        i = j
+    return out
+
+
+class Turn:
+    def __init__(self, crate, folder, path, names, labels):
+        self.crate, self.folder, self.path, self.names, self.labels = crate, folder, path, names, labels
+        self.said = []
+        self.steps = {}
+        for place in names["places"]:
+            old, new = place[2]
+            if old:
+                self.steps[norm(old)] = new
+        self.needs = {norm(o): n for o, n in names["needs"]}
+
+    def say(self, text):
+        self.said.append(f"look: {self.folder}: {text}")
+
+    def run(self):
+        file = os.path.join(self.folder, "Proof.antt")
+        with open(file, encoding="utf-8") as f:
+            text = f.read()
+        self.head, self.uses, decls = split_decls(text)
+        last = decls[-1]
+        body = " ".join(line.strip() for line in last["clauses"] or last["text"])
+        m = re.search(r"tie\.spec\b", body)
+        if not m:
+            self.say("no tie.spec in the last declaration")
+            return False
+        rest = body[m.end() :]
+        depth, end = 0, len(rest)
+        for k, ch in enumerate(rest):
+            depth += {"(": 1, ")": -1}.get(ch, 0)
+            if depth < 0:
+                end = k
+                break
+        args = args_of(rest[:end])
+        self.decls = {d["name"]: d for d in decls[:-1] if d["name"]}
+        self.order = [d["name"] for d in decls[:-1] if d["name"]]
+        for d in decls[:-1]:
+            if not d["name"]:
+                self.say("not read: " + d["text"][0][:80])
+        answers, used = {}, set()
+        loops = [pair for pair, _ in self.names["loops"]]
+        given = []
+        for a in args:
+            d = self.decls.get(a)
+            if d and re.match(r"tie\.(invariant|decreases)-", d["sig"]):
+                used.add(a)
+                continue
+            given.append(a)
+        needs = self.names["needs"]
+        by_place = len(given) == len(needs)
+        if not by_place:
+            self.say(f"{len(given)} answers for {len(needs)} goals")
+        for k, a in enumerate(given):
+            d = self.decls.get(a)
+            goal = needs[k][1] if by_place else None
+            if d:
+                m = re.match(rf"tie\.Need-({W})", d["sig"])
+                if m:
+                    old = norm(m[1])
+                    old = re.sub(r"^overflow-", "", old)
+                    by_name = self.needs.get(old)
+                    if by_name and not (by_place and norm(needs[k][0]) == old):
+                        goal = by_name
+                    elif not by_place and not by_name:
+                        used.add(a)
+                        if not old.startswith("same-length"):
+                            self.say(f"no goal for {a} : {m[1]}")
+                        continue
+                used.add(a)
+                answers[goal] = ("decl", d)
+            elif goal is None:
+                if not re.fullmatch(r"\(λ c( κs)?\. (search rules|tt)\)", a):
+                    self.say(f"no goal for {a[:100]}")
+            elif not re.fullmatch(r"\(λ c( κs)?\. (search rules|tt)\)", a):
+                answers[goal] = ("term", a)
+        self.helpers = {n: d for n, d in self.decls.items() if n not in used}
+        self.kinds = {}
+        for n, d in self.helpers.items():
+            m = re.match(r"((?:tie\.[^→]+→ *)+)(.*)$", d["sig"])
+            if m and "tie." in d["sig"]:
+                count = m[1].count("→")
+                clause = self.clause(d)
+                if clause is None:
+                    self.kinds[n] = ("bad",)
+                    self.say(f"helper {n} has more than one clause")
+                    continue
+                params, term = clause
+                self.kinds[n] = ("tie", count, params, term, m[2])
+            elif "tie." in " ".join(d["text"]):
+                self.kinds[n] = ("bad",)
+                self.say(f"helper {n} names tie")
+            else:
+                self.kinds[n] = ("plain",)
+        # helpers that only go back: they are `c`
+        for n, k in self.kinds.items():
+            if k[0] == "tie" and k[1] == 1 and re.fullmatch(r"tie\..*", k[4]):
+                self.kinds[n] = ("back",)
+        inv = self.invariants(loops)
+        ans = self.answers(answers)
+        self.write(inv, ans)
+        return True
+
+    def clause(self, d):
+        text = "\n".join(d["clauses"])
+        m = re.match(rf"{re.escape(d['name'])}((?: [^=]*?)?) =(?=\s)", text)
+        if not m:
+            return None
+        rest = text[m.end() :]
+        if re.search(rf"(?m)^{re.escape(d['name'])} ", rest):
+            return None
+        return args_of(m[1]), rest.strip("\n")
+
+    def invariants(self, loops):
+        out = []
+        for name, d in self.decls.items():
+            m = re.match(r"tie\.(invariant|decreases)-(\S+)", d["sig"])
+            if not m:
+                continue
+            at = [k for k, pair in enumerate(loops) if norm(pair[0]) == norm(m[2])]
+            if not at:
+                self.say(f"no loop {m[2]}")
+                continue
+            k = at[0]
+            variables, changed = self.names["loops"][k][1], self.names["changed"][k]
+            clause = self.clause(d)
+            if clause is None:
+                self.say(f"{name}: more than one clause")
+                continue
+            params, term = clause
+            moved = [v for v, c in zip(variables, changed) if c]
+            if len(params) != len(variables) + len(moved):
+                self.say(f"{name}: {len(params)} parameters for {variables} {moved}")
+            table = {}
+            for p, v, c in zip(params, variables, changed):
+                table[p] = f"l.initial.{v}" if c else f"l.{v}"
+            for p, v in zip(params[len(variables) :], moved):
+                table[p] = f"l.{v}"
+            term = re.sub(rf"(?<![\w.\-'₀-₉]){W}", lambda w: table.get(w[0], w[0]), term)
+            new = f"{m[1]}-{loops[k][1]}"
+            out.append((d["notes"], new, d["unfolding"], term))
+        return out
+
+    def term(self, text, var):
+        """A term of an answer: `before` goes, steps get their names, what only goes back is `c`."""
+        back = {var}
+        text = re.sub(rf"(?<![\w.\-'₀-₉]){re.escape(var)}(?=\.)", "c", text) if var != "c" else text
+        backs = [n for n, k in self.kinds.items() if k[0] == "back"]
+        ties = [n for n, k in self.kinds.items() if k[0] == "tie"]
+        changed = True
+        aliases = {"c"} | ({var} if var else set())
+        for _ in range(60):
+            before = text
+            text = PATH.sub(lambda m: self.dotted(m, aliases), text)
+            for a in sorted(aliases - {"c"}, key=len, reverse=True):
+                text = re.sub(rf"(?<![\w.\-'₀-₉]){re.escape(a)}(?![\w\-'₀-₉])", "c", text)
+            for n in backs:
+                text = re.sub(rf"\(\s*{re.escape(n)}\s+c\s*\)", "c", text)
+                text = re.sub(rf"(?<![\w.\-'₀-₉]){re.escape(n)}\s+c(?![\w\-'₀-₉.])", "c", text)
+            m = re.search(rf"let ({W})(?: : [^=]*?)? =\s+c\s+in(?=\s)\s*", text)
+            if m:
+                aliases.add(m[1])
+                text = text[: m.start()] + text[m.end() :]
+            if text == before:
+                break
+        for n in ties:
+            c = r"(?:\s+c(?![\w\-'₀-₉.]))" * self.kinds[n][1]
+            text = re.sub(rf"\(\s*{re.escape(n)}{c}\s*\)", n, text)
+            text = re.sub(rf"(?<![\w.\-'₀-₉]){re.escape(n)}{c}", n, text)
+        return text
+
+    def dotted(self, m, aliases):
+        if m[1] not in aliases and m[1] != "c":
+            return m[0]
+        parts = [p for p in m[2].split(".")[1:] if p != "before"]
+        if not parts:
+            return "c"
+        if parts[0] == "pre":
+            return "c." + ".".join(self.pre(parts[1:]))
+        head = parts[0]
+        if head in ("args", "ranges"):
+            parts[1:] = [p.replace("-", "_") for p in parts[1:]]
+        elif norm(head) in self.steps:
+            parts[0] = "\x01" + self.steps[norm(head)]  # so that a second pass knows it
+            parts[1:] = [p if p in ("true", "false", "ensures", "invariant", "result") else p.replace("-", "_") for p in parts[1:]]
+            if parts[1:3] == ["given", "1"]:
+                parts[1:3] = ["is"]
+        return "c." + ".".join(parts)
+
+    def pre(self, parts):
+        ones = 0
+        for p in parts:
+            if p != "1":
+                break
+            ones += 1
+        rest = parts[ones:]
+        n = len(self.labels)
+        if n <= 1:
+            return ["requires"] + rest
+        k = ones
+        if rest and rest[0] == "0" and k < n:
+            rest = rest[1:]
+        if 1 <= k <= n:
+            return ["requires", self.labels[k - 1]] + rest
+        return ["requires"] + parts
+
+    def uses_of(self, text):
+        return [n for n in self.order if n in self.helpers and re.search(rf"(?<![\w.\-'₀-₉]){re.escape(n)}(?![\w\-'₀-₉])", text)]
+
+    def lets(self, text):
+        """The helpers of a term that name a step, as `let`s in front of it."""
+        need, seen = [], set()
+
+        def add(t):
+            for n in self.uses_of(t):
+                if n in seen or self.kinds[n][0] != "tie":
+                    continue
+                seen.add(n)
+                count, params, term, kind = self.kinds[n][1:]
+                body = self.term(term, params[0])
+                for p in params[1:count]:
+                    body = re.sub(rf"(?<![\w.\-'₀-₉]){re.escape(p)}(?![\w\-'₀-₉])", "c", body)
+                    body = self.term(body, "c")
+                add(body)
+                if len(params) > count:
+                    body = "λ " + " ".join(params[count:]) + ". " + body
+                need.append(f"    let {n} : {kind} =\n        {body.strip()} in\n")
+                self.unfolded.update(x for line in self.helpers[n]["unfolding"] for x in line.split()[1:])
+
+        add(text)
+        return "".join(need)
+
+    def answers(self, answers):
+        out = []
+        for _, goal in self.names["needs"]:
+            if goal not in answers:
+                continue
+            kind, it = answers[goal]
+            self.unfolded = set()
+            if kind == "decl":
+                clause = self.clause(it)
+                if clause is None:
+                    out.append((it["notes"], goal, it["unfolding"], "\n".join(it["clauses"]).replace(it["name"] + " ", goal + " "), True))
+                    self.say(f"{goal}: more than one clause")
+                    continue
+                params, term = clause
+                unfolding, notes = it["unfolding"], it["notes"]
+            else:
+                m = re.fullmatch(r"\(λ ([^.]*)\. (.*)\)", it, re.S)
+                if not m:
+                    out.append(([], goal, [], f"{goal} = {it}", True))
+                    self.say(f"{goal}: {it[:60]}")
+                    continue
+                params, term, unfolding, notes = m[1].split(), m[2], [], []
+            var = params[0] if params else "c"
+            if not params:
+                out.append((notes, goal, unfolding, f"{goal} = {term}", True))
+                self.say(f"{goal}: no parameter")
+                continue
+            term = self.term(term, var)
+            lets = self.lets(term).replace("\x01", "")
+            term = term.replace("\x01", "")
+            if self.unfolded:
+                mine = [x for line in unfolding for x in line.split()[1:]]
+                unfolding = ["unfolding " + " ".join(mine + sorted(self.unfolded - set(mine)))]
+            if lets:
+                term = "\n" + lets + "    " + term.strip()
+            out.append((notes, goal, unfolding, term, False))
+        return out
+
+    def write(self, inv, ans):
+        os.remove(os.path.join(self.folder, "Proof.antt"))
+        module = f"Rattle.{self.crate}.proofs.{self.path}"
+        if inv:
+            text = []
+            for notes, name, unfolding, term in inv:
+                text += notes + [f"abbrev pub {name} : goal.{name}"] + unfolding + [f"{name} l =" + (" " + term.strip() if "\n" not in term.strip() else "\n    " + term.strip())] + [""]
+            self.file("Invariants.antt", text, f"use {module}.Given as goal", plain=True)
+        if ans:
+            text = []
+            for notes, name, unfolding, term, whole in ans:
+                text += notes + [f"pub {name} : goal.{name}"] + unfolding
+                text += [term] if whole else [f"{name} c =" + (" " + term.strip() if not term.startswith("\n") else "\n" + term.strip("\n"))]
+                text.append("")
+            self.file("Answers.antt", text, f"use {module}.Goals as goal", plain=True)
+
+    def file(self, name, text, goal, plain):
+        body = "\n".join(text)
+        # the helpers that name no step
+        got, more = [], True
+        while more:
+            more = False
+            for n in self.uses_of(body + "\n".join("\n".join(self.helpers[g]["text"]) for g in got)):
+                if self.kinds[n][0] == "plain" and n not in got:
+                    got.append(n)
+                    more = True
+        helped = []
+        for n in self.order:
+            if n in got:
+                helped += self.helpers[n]["notes"] + self.helpers[n]["text"] + [""]
+        body = "\n".join(helped) + ("\n" if helped else "") + body
+        uses = []
+        for use in self.uses:
+            if use.endswith(".Tie as tie") or ".Statement.{statement}" in use:
+                continue
+            m = re.match(r"use ([^{]*)\.\{(.*)\}$", use)
+            if not m:
+                uses.append(use)
+                continue
+            kept = [it for it in re.split(r",\s*", m[2].strip().strip(",")) if self.used(it, body)]
+            if kept:
+                uses.append(f"use {m[1]}.{{{', '.join(kept)}}}")
+        with open(os.path.join(self.folder, name), "w", encoding="utf-8") as f:
+            f.write("\n".join(self.head + uses + [goal, ""]) + "\n" + body.rstrip("\n") + "\n")
+
+    def used(self, it, body):
+        word = it.split(" as ")[-1]
+        word = word.split(".")[-1] if "." in word else word
+        if "◌" in word:
+            parts = [p for p in word.split("◌") if p]
+            return all(p in body for p in parts)
+        return re.search(rf"(?<![\w\-'₀-₉]){re.escape(word)}(?![\w\-'₀-₉])", body)
+
+
+def labels_of(crate, path):
+    """The names of a function's `requires`, in order."""
+    name = path.split(".")[-1].lstrip("+")
+    best = []
+    for folder, _, files in os.walk(f"crates/{crate}/src"):
+        for f in files:
+            with open(os.path.join(folder, f), encoding="utf-8") as it:
+                text = it.read()
+            m = re.search(rf"\bfn {re.escape(name)}\b(.*?)\n\{{", text, re.S)
+            where = os.path.splitext(f)[0]
+            if m:
+                labels = re.findall(r"\n\s+requires\*?\s+(\w+)\s*\{", m[1])
+                unnamed = len(re.findall(r"\n\s+requires\*?\s*\{", m[1]))
+                found = labels or [""] * unnamed
+                if where in path.split(".") or not best:
+                    best = found
+    return best
+
+
+def main():
+    with open(sys.argv[1], encoding="utf-8") as f:
+        names = json.load(f)
+    for crate in sys.argv[2:]:
+        for folder, _, files in sorted(os.walk(f"crates/{crate}/proofs")):
+            if "Proof.antt" not in files:
+                continue
+            path = os.path.relpath(folder, f"crates/{crate}/proofs").replace("/", ".")
+            key = f"Rattle-{crate}-proofs.{path}.Lts"
+            with open(os.path.join(folder, "Proof.antt"), encoding="utf-8") as f:
+                if "tie.spec" not in f.read():
+                    print(f"look: {folder}: by hand")
+                    continue
+            if key not in names:
+                print(f"look: {folder}: not in the names")
+                continue
+            it = Turn(crate, folder, path, names[key], labels_of(crate, path))
+            it.run()
+            print("\n".join(it.said), end="\n" if it.said else "")
+
+
+if __name__ == "__main__":
+    main()
