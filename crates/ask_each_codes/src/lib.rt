@@ -12,7 +12,7 @@ use rules::Label;
 use std::num::wrapping_add_u16;
 
 // The one code that says the label asked, or 65,536 where no code does. Codes below `most` say their field by themselves.
-#[derive(Drop)]
+#[derive(Clone, Copy)]
 pub struct SoleCode {
     pub code: u32,
     pub most: u16,

@@ -14,7 +14,7 @@ use labels::code::{ELEMENT, ESCAPED};
 use rules::{Field, Label, Referent, Span, WeakReferents};
 
 // The first edge that matches: its number among the object's. Bad where an edge before it cannot be read.
-#[derive(Drop)]
+#[derive(Clone, Copy)]
 pub enum Sought {
     At(usize),
     Nothing,

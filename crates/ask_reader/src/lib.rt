@@ -10,7 +10,7 @@ ghost use Rattle.ask_reader.specs.Read.{step_at, read_edge_says, with_label, edg
 use labels::EdgeLabel;
 
 // `at` is the edge that is read next, counted from the object's first.
-#[derive(Drop)]
+#[derive(Clone, Copy)]
 pub struct Edges<'a, 'b> {
     pub targets: &'a [u32],
     pub codes: &'b [u16],
@@ -18,14 +18,14 @@ pub struct Edges<'a, 'b> {
 }
 
 // An edge as it stands in the columns.
-#[derive(Drop)]
+#[derive(Clone, Copy)]
 pub enum Step {
     Edge { target: u32, code: u16 },
     End,
 }
 
 // An edge with its exact label, or one that cannot be read back.
-#[derive(Drop)]
+#[derive(Clone, Copy)]
 pub enum ReadEdge {
     Edge { target: u32, label: u32 },
     Bad,

@@ -22,7 +22,7 @@ fn blocks_of(objects: usize) -> usize {
 }
 
 // What a question asks: an object, and a label or a target.
-#[derive(Drop)]
+#[derive(Clone, Copy)]
 struct Pair {
     object: u32,
     other: u32,

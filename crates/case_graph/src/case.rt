@@ -10,7 +10,7 @@ pub const ROWS: usize = 4000;
 
 pub const BLOCKS: usize = 1000;
 
-#[derive(Drop)]
+#[derive(Clone, Copy)]
 pub struct Numbers {
     pub raw: bool,
     pub soft: bool,
@@ -25,7 +25,7 @@ pub struct Numbers {
     pub several: bool,
 }
 
-#[derive(Drop)]
+#[derive(Clone, Copy)]
 pub enum Sound {
     Yes,
     No(Fault),

@@ -5,7 +5,7 @@ use case_text::{column, form};
 use rules::{ObjectEdges, Span, WeakReferents};
 
 // Edges to one target whose labels follow each other; before the first edge there are none.
-#[derive(Drop)]
+#[derive(Clone, Copy)]
 struct Run {
     some: bool,
     target: u32,

@@ -1,7 +1,7 @@
 // What can be wrong with the text, and how it is told.
 use crate::form;
 
-#[derive(Drop)]
+#[derive(Clone, Copy)]
 pub enum Fault {
     NoListYet,
     ListTooMany,

@@ -4,7 +4,7 @@ use crate::text;
 use crate::text::{Item, ReadItem};
 
 // How much of each arena is used.
-#[derive(Drop)]
+#[derive(Clone, Copy)]
 pub struct Used {
     pub bytes: usize,
     pub halves: usize,
@@ -12,14 +12,14 @@ pub struct Used {
 }
 
 // Where the numbers of an item end in their arena.
-#[derive(Drop)]
+#[derive(Clone, Copy)]
 pub enum Filled {
     To(usize),
     Fault(Fault),
 }
 
 // What reading a list, or all of them, comes to: the place behind, and where the arenas are used up to; or what is wrong, and where.
-#[derive(Drop)]
+#[derive(Clone, Copy)]
 pub enum Listed {
     Done { next: usize, used: Used },
     Bad { at: usize, why: Fault },

@@ -8,14 +8,14 @@ pub const LIST: u8 = 1;
 pub const ITEM: u8 = 2;
 
 // A number in the text and the place behind it.
-#[derive(Drop)]
+#[derive(Clone, Copy)]
 pub enum Number {
     Is { value: u64, next: usize },
     Missing,
 }
 
 // An item of a list: so many numbers, the first of them, the step from each to the next, and the place behind the item.
-#[derive(Drop)]
+#[derive(Clone, Copy)]
 pub struct Item {
     pub count: u64,
     pub first: u64,
@@ -23,7 +23,7 @@ pub struct Item {
     pub next: usize,
 }
 
-#[derive(Drop)]
+#[derive(Clone, Copy)]
 pub enum ReadItem {
     Is(Item),
     Missing,
@@ -76,7 +76,7 @@ pub fn seek(text: &[u8], at: usize, mark: u8) -> usize {
 }
 
 // A number with one digit more, if it fits in 64 bits.
-#[derive(Drop)]
+#[derive(Clone, Copy)]
 enum Grown {
     Is(u64),
     TooLarge,

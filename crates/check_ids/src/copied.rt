@@ -8,7 +8,7 @@ ghost use Rattle.check_ids.specs.Copying.{fault_says, has_row, escape_id, code_f
 ghost use Rattle.check_ids.specs.Copying.{held_codes, escaped_codes, escape_fault, base_fault, is_clean, TestedCodes};
 
 // The place of a fault, if there is one.
-#[derive(Drop)]
+#[derive(Clone, Copy)]
 pub enum Fault {
     At(usize),
     Nothing,
@@ -164,7 +164,7 @@ fn one_escaped(code: u32) -> usize
 }
 
 // How many codes are not 0, and how many are escapes.
-#[derive(Drop)]
+#[derive(Clone, Copy)]
 struct Totals {
     held: usize,
     escaped: usize,
@@ -256,7 +256,7 @@ fn is_clean(
 }
 
 // The place of the first fault, or where there is none, how many codes are not 0.
-#[derive(Drop)]
+#[derive(Clone, Copy)]
 pub enum Tested {
     At(usize),
     Held(usize),

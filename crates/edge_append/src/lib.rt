@@ -9,7 +9,7 @@ ghost use Rattle.std.specs.Prelude.{◌≡◌, ◌+◌, ◌^◌, ◌<◌};
 ghost use Rattle.edge_append.specs.Append.{with_edge, with_weak, with_missing};
 
 // Where the next edge and the next weak target go, and how many ids no object has.
-#[derive(Drop)]
+#[derive(Clone, Copy)]
 pub struct Pass {
     pub edges: usize,
     pub weak: usize,

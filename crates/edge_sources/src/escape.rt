@@ -9,7 +9,7 @@ ghost use Rattle.rules.specs.Input.{copied_id};
 use super::copied::id_held;
 
 // An id, and the row of the escapes from which the next is sought.
-#[derive(Drop)]
+#[derive(Clone, Copy)]
 pub struct Read {
     pub id: u64,
     pub row: usize,

@@ -9,7 +9,7 @@ use super::checks;
 use store::Offset;
 
 // Whether all spans read, and then whether each is narrow, where the first begins and where the last ends.
-#[derive(Drop)]
+#[derive(Clone, Copy)]
 pub struct Spans {
     pub good: bool,
     pub narrow: bool,

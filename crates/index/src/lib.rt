@@ -9,7 +9,7 @@ ghost use Rattle.index.specs.Copied.{IdsCoding};
 pub use index_read::{CopiedId, id_at};
 
 // What coding answers: the lengths used of codes and of escapes; or the refusal.
-#[derive(Drop)]
+#[derive(Clone, Copy)]
 pub enum CodedIds {
     Done { codes: usize, escapes: usize },
     Room(usize),

@@ -1,5 +1,6 @@
 // One id read back from its three columns. `index` codes them, and passes this on.
 #![tactic(auto)]
+
 mod read;
 
 ghost use Rattle.std.specs.Prelude.{◌≡◌};
@@ -9,7 +10,7 @@ ghost use Rattle.index_read.specs.Back.{id_says, ids_of, id_back};
 pub const ESCAPED: u32 = 4294967295;
 
 // What reading one id back answers.
-#[derive(Drop)]
+#[derive(Clone, Copy)]
 pub enum CopiedId {
     Id(u64),
     Index(usize),

@@ -8,7 +8,7 @@ ghost use Rattle.std.specs.Prelude.{◌≡◌, ◌+◌, ◌≤◌};
 ghost use Rattle.rules.specs.Types.{loader_label};
 
 // What reading one label back answers.
-#[derive(Drop)]
+#[derive(Clone, Copy)]
 pub enum EdgeLabel {
     Is(u32),
     Bad,

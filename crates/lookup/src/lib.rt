@@ -1,12 +1,13 @@
 // The place of an id in a column of ids: by a walk from the front, and on a column that rises by a search that starts from a guess.
 #![tactic(auto)]
+
 ghost use Rattle.std.specs.Prelude.{◌≡◌, ltb, length};
 ghost use Rattle.columns.specs.Lists.{one};
 ghost use Rattle.columns.specs.Ranks.{Ranked};
 ghost use Rattle.lookup.specs.Lookup.{lookup_of, Sought, Held};
 
 // Where the id stands first; or how many ids are below it, which on a column that rises is where it would stand.
-#[derive(Drop)]
+#[derive(Clone, Copy)]
 pub enum Found {
     At(usize),
     Missing(usize),

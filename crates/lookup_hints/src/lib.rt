@@ -2,6 +2,7 @@
 // for something else and idle so long, has in two numbers the place of each bucket's first id, and inside a bucket the place is guessed by proportion. A search
 // is right from any place, so no lookup relies on what `mark` leaves, and of a guess only a bound is promised.
 #![tactic(auto)]
+
 ghost use Rattle.std.specs.Prelude.{◌≡◌, ◌+◌, ◌*◌, ◌%◌, ◌≤◌, ◌<◌, max, length, set};
 ghost use Rattle.lookup.specs.Lookup.{Sought};
 ghost use Rattle.lookup_hints.specs.Hints.{bit_count, scaled_bits, scale_of, step_of, hint_at, with_hint, hints_of};

@@ -5,7 +5,7 @@ ghost use Rattle.rules.specs.Types.{loader_label, element_label, is_element, kee
 ghost use Rattle.columns.specs.Columns.{accepts};
 
 // A field's label is its name; the loader and the elements come behind all names.
-#[derive(Drop)]
+#[derive(Clone, Copy)]
 pub struct Label(pub u32);
 
 impl Label {
@@ -40,7 +40,7 @@ impl Label {
 }
 
 // The kinds of objects, as the column holds them.
-#[derive(Drop)]
+#[derive(Clone, Copy)]
 pub struct Kind(pub u8);
 
 impl Kind {
@@ -54,7 +54,7 @@ impl Kind {
 }
 
 // The reference kinds of classes, as the column holds them.
-#[derive(Drop)]
+#[derive(Clone, Copy)]
 pub struct RefKind(pub u8);
 
 impl RefKind {
@@ -70,7 +70,7 @@ impl RefKind {
 }
 
 // Which referents count as strongly held.
-#[derive(Drop)]
+#[derive(Clone, Copy)]
 pub struct ReferencePolicy {
     pub soft: bool,
     pub weak: bool,
@@ -89,7 +89,7 @@ impl ReferencePolicy {
 }
 
 // One case for each refusal number, with its place.
-#[derive(Drop)]
+#[derive(Clone, Copy)]
 pub enum Refusal {
     Lengths,
     Limit,
@@ -106,14 +106,14 @@ pub enum Refusal {
 }
 
 // What the checks answer: the places of an input that may be built.
-#[derive(Drop)]
+#[derive(Clone, Copy)]
 pub enum Checked {
     Accepted(usize),
     Refused(Refusal),
 }
 
 // The used lengths that a build returns, and how many ids no object has.
-#[derive(Drop)]
+#[derive(Clone, Copy)]
 pub struct Counts {
     pub edges: usize,
     pub weak: usize,
@@ -124,42 +124,42 @@ pub struct Counts {
     pub dangling: u64,
 }
 
-#[derive(Drop)]
+#[derive(Clone, Copy)]
 pub enum Built {
     Done(Counts),
     Refused(Refusal),
 }
 
 // The answers to the questions, one type for each.
-#[derive(Drop)]
+#[derive(Clone, Copy)]
 pub enum Span {
     Edges { start: usize, end: usize },
     Index(usize),
     Columns(usize),
 }
 
-#[derive(Drop)]
+#[derive(Clone, Copy)]
 pub enum EdgeCount {
     Edges(usize),
     Index(usize),
     Columns(usize),
 }
 
-#[derive(Drop)]
+#[derive(Clone, Copy)]
 pub enum CoarseLabel {
     Is(Label),
     Index(usize),
     Columns(usize),
 }
 
-#[derive(Drop)]
+#[derive(Clone, Copy)]
 pub enum ExactLabel {
     Is(Label),
     Index(usize),
     Columns(usize),
 }
 
-#[derive(Drop)]
+#[derive(Clone, Copy)]
 pub enum LabelOf {
     Is(Label),
     Nothing,
@@ -167,7 +167,7 @@ pub enum LabelOf {
     Columns(usize),
 }
 
-#[derive(Drop)]
+#[derive(Clone, Copy)]
 pub enum Field {
     Target(u32),
     Nothing,
@@ -175,7 +175,7 @@ pub enum Field {
     Columns(usize),
 }
 
-#[derive(Drop)]
+#[derive(Clone, Copy)]
 pub enum Referent {
     Target(u32),
     Nothing,
@@ -184,7 +184,7 @@ pub enum Referent {
 }
 
 // The rows of the weak pairs that are the object's.
-#[derive(Drop)]
+#[derive(Clone, Copy)]
 pub enum WeakReferents {
     Rows { start: usize, end: usize },
     Index(usize),
@@ -192,7 +192,7 @@ pub enum WeakReferents {
 }
 
 // How many edges of the object were written.
-#[derive(Drop)]
+#[derive(Clone, Copy)]
 pub enum ObjectEdges {
     Edges(usize),
     Room(usize),
@@ -201,7 +201,7 @@ pub enum ObjectEdges {
 }
 
 // What a question asked of each object of a list answers: how many were asked; or the position in the list at which it was refused.
-#[derive(Drop)]
+#[derive(Clone, Copy)]
 pub enum EachField {
     Done(usize),
     Room(usize),
@@ -210,7 +210,7 @@ pub enum EachField {
 }
 
 // What inverting answers: how many entries and long rows there are.
-#[derive(Drop)]
+#[derive(Clone, Copy)]
 pub enum Inverted {
     Done { entries: usize, long: usize },
     Room(usize),
@@ -218,7 +218,7 @@ pub enum Inverted {
 }
 
 // An entry of an object: the object that refers to it, and the place of the edge in the target column.
-#[derive(Drop)]
+#[derive(Clone, Copy)]
 pub enum Entry {
     Edge { source: u32, place: u32 },
     Index(usize),

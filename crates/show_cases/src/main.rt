@@ -16,7 +16,7 @@ use case_text::{arrays, fault, lists, text};
 use libc::STDIN_FILENO;
 
 // Where the text goes on, and how much of the arenas is used: by the case, and by the lists that are kept.
-#[derive(Drop)]
+#[derive(Clone, Copy)]
 struct State {
     at: usize,
     used: Used,

@@ -112,7 +112,7 @@ pub(crate) fn width(k: usize) -> u8 {
 }
 
 // A walk over a table of names: the number of the name, how far it is as the word, whether it is so to here, and the number of the name that is the word.
-#[derive(Drop)]
+#[derive(Clone, Copy)]
 struct Walk {
     name: usize,
     to: usize,

@@ -7,7 +7,7 @@ ghost use Rattle.slot_rows.specs.Rows.{Filling, rows_of};
 
 // One slot of a class, as a host lends it.
 #[repr(C)]
-#[derive(Drop)]
+#[derive(Clone, Copy)]
 pub struct SlotRow {
     pub offset: u32,
     pub label: u32,
@@ -15,7 +15,7 @@ pub struct SlotRow {
 }
 
 // What filling answers: the rows written, or the buffer that is too small.
-#[derive(Drop)]
+#[derive(Clone, Copy)]
 pub enum Filled {
     Done(usize),
     Room(usize),

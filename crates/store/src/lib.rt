@@ -8,7 +8,7 @@ ghost use Rattle.store.specs.Blocked.{Coding};
 pub use store_read::{Offset, offset_at, short_at};
 
 // What coding answers: the lengths used of bases, of short numbers and of long rows; or the refusal.
-#[derive(Drop)]
+#[derive(Clone, Copy)]
 pub enum CodedOffsets {
     Done {
         bases: usize,

@@ -1,5 +1,6 @@
 // One offset read back from its four columns. `store` codes them, and passes this on.
 #![tactic(auto)]
+
 mod read;
 
 ghost use Rattle.std.specs.Prelude.{◌≡◌};
@@ -8,7 +9,7 @@ ghost use Rattle.store_read.specs.Back.{offset_says, blocked_of, read_back};
 pub use read::short_at;
 
 // What reading one offset back answers.
-#[derive(Drop)]
+#[derive(Clone, Copy)]
 pub enum Offset {
     Value(u64),
     Index(usize),

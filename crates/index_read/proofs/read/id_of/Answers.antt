@@ -1,0 +1,16 @@
+-- `index_read::read::id_of` meets its contract: by whether the id is 0. Assumes nothing.
+use Prim.Native.Nat.{◌<◌, ◌^◌}
+use native.Mathlib.Omega.{arith}
+use borrow.Author.Tests.{eq-eqb, ne_eqb, lt-leb}
+use Rattle.columns.specs.Lists.{any_of}
+use Rattle.index_read.specs.Back.{whole}
+use Rattle.index_read.proofs.read.id_of.Goals as goal
+
+pub returns-then-id-eq0 : goal.returns-then-id-eq0
+unfolding whole any_of
+returns-then-id-eq0 c = simp (eq-eqb _ _ c.if-id-eq0.true)
+
+pub returns : goal.returns
+unfolding whole any_of
+returns c = let l : c.args.id < 2 ^ 64 = omega arith in
+    simp (ne_eqb _ _ c.if-id-eq0.false, lt-leb _ _ l)
