@@ -97,15 +97,33 @@ def args_of(text):
     return out
 
 
+def items_of(text):
+    """What commas part, outside of brackets."""
+    out, depth, last = [], 0, 0
+    for k, ch in enumerate(text):
+        depth += {"(": 1, "{": 1, "[": 1, ")": -1, "}": -1, "]": -1}.get(ch, 0)
+        if ch == "," and not depth:
+            out.append(text[last:k].strip())
+            last = k + 1
+    if text[last:].strip():
+        out.append(text[last:].strip())
+    return out
+
+
 class Turn:
     def __init__(self, crate, folder, path, names, labels):
         self.crate, self.folder, self.path, self.names, self.labels = crate, folder, path, names, labels
         self.said = []
-        self.steps = {}
+        self.steps, self.callee, self.arms = {}, {}, {}
         for place in names["places"]:
             old, new = place[2]
             if old:
                 self.steps[norm(old)] = new
+                self.callee[norm(old)] = place[3]
+        for arm in names["arms"]:
+            for field, step, path_ in arm[2] if arm else []:
+                if step and path_:
+                    self.arms[(norm(step), tuple(path_))] = (arm[0], field)
         self.needs = {norm(o): n for o, n in names["needs"]}
 
     def say(self, text):
@@ -174,16 +192,17 @@ class Turn:
         self.helpers = {n: d for n, d in self.decls.items() if n not in used}
         self.kinds = {}
         for n, d in self.helpers.items():
-            m = re.match(r"((?:tie\.[^→]+→ *)+)(.*)$", d["sig"])
+            m = re.match(r"((?:(?:tie\.[^→()]+|\(\w+ : tie\.[^→()]+\)) *→ *)+)(.*)$", d["sig"])
             if m and "tie." in d["sig"]:
                 count = m[1].count("→")
+                named = re.search(r"\((\w+) : tie", m[1])
                 clause = self.clause(d)
                 if clause is None:
                     self.kinds[n] = ("bad",)
                     self.say(f"helper {n} has more than one clause")
                     continue
                 params, term = clause
-                self.kinds[n] = ("tie", count, params, term, m[2])
+                self.kinds[n] = ("tie", count, params, term, m[2], named and named[1])
             elif "tie." in " ".join(d["text"]):
                 self.kinds[n] = ("bad",)
                 self.say(f"helper {n} names tie")
@@ -275,14 +294,74 @@ class Turn:
         if parts[0] == "pre":
             return "c." + ".".join(self.pre(parts[1:]))
         head = parts[0]
+        if norm(head) not in self.steps and head.endswith("_lem") and norm(head[:-4]) in self.steps:
+            parts[0] = head = head[:-4]
+        for k in range(len(parts), 0, -1):
+            arm = self.arms.get((norm(head), tuple(parts[1:k])))
+            if arm:
+                return ".".join(["c", "\x01" + arm[0], arm[1], *parts[k:]])
+        if head == "requires" and len(self.labels) > 1 and parts[1:] and parts[1].isdigit():
+            return "c." + ".".join(self.clause_at("requires", self.labels, parts[1:]))
         if head in ("args", "ranges"):
             parts[1:] = [p.replace("-", "_") for p in parts[1:]]
         elif norm(head) in self.steps:
+            callee = self.callee.get(norm(head))
             parts[0] = "\x01" + self.steps[norm(head)]  # so that a second pass knows it
+            if parts[1:2] == ["auto"] and parts[2:] and parts[2].isdigit() and callee in self.names["params"]:
+                ones = 0
+                while ones + 2 < len(parts) and parts[ones + 2] == "1":
+                    ones += 1
+                params = self.names["params"][callee]
+                if ones < len(params):
+                    parts[2:] = [params[ones]] + parts[3 + ones :]
+            if parts[1:2] == ["ensures"] and parts[2:] and parts[2].isdigit() and callee:
+                labels = labels_of(callee.split("::")[0], callee.replace("::", ".").partition(".")[2], "ensures")
+                if len(labels) > 1:
+                    parts[1:] = self.clause_at("ensures", labels, parts[2:])
             parts[1:] = [p if p in ("true", "false", "ensures", "invariant", "result") else p.replace("-", "_") for p in parts[1:]]
             if parts[1:3] == ["given", "1"]:
                 parts[1:3] = ["is"]
         return "c." + ".".join(parts)
+
+    def clause_at(self, word, labels, parts):
+        """A clause by its place: of two, `.0` and `.1`; of more, as they are nested or in a row."""
+        n = len(labels)
+        if parts[0] == "1" and n > 2:
+            ones = 0
+            while ones < len(parts) and parts[ones] == "1" and ones < n - 1:
+                ones += 1
+            rest = parts[ones:]
+            if ones < n - 1 and rest[:1] == ["0"]:
+                rest = rest[1:]
+            return [word, labels[ones], *rest]
+        return [word, labels[int(parts[0])], *parts[1:]]
+
+    def record(self, term, labels):
+        """A tuple that answers several clauses, as a record of them."""
+        text = term.rstrip()
+        if len(labels) < 2 or not text.endswith(")"):
+            return term
+        depth, at = 0, None
+        for k in range(len(text) - 1, -1, -1):
+            depth += {")": 1, "(": -1}.get(text[k], 0)
+            if not depth:
+                at = k
+                break
+        before = text[:at].rstrip()
+        if before and not re.search(r"(?<![\w.-])in$", before):
+            return term
+        items = items_of(text[at + 1 : -1])
+        while len(items) == 2 and len(labels) > 2 and items[-1].startswith("(") and items[-1].endswith(")") and len(items) < len(labels):
+            break
+        flat = items
+        while len(flat) < len(labels) and flat[-1].startswith("(") and flat[-1].endswith(")"):
+            inner = items_of(flat[-1][1:-1])
+            if len(inner) < 2:
+                break
+            flat = flat[:-1] + inner
+        if len(flat) != len(labels):
+            return term
+        return (before + " " if before else "") + "record { " + "; ".join(f"{a} = {b}" for a, b in zip(labels, flat)) + " }"
 
     def pre(self, parts):
         ones = 0
@@ -313,7 +392,10 @@ class Turn:
                 if n in seen or self.kinds[n][0] != "tie":
                     continue
                 seen.add(n)
-                count, params, term, kind = self.kinds[n][1:]
+                count, params, term, kind, named = self.kinds[n][1:]
+                if named:
+                    kind = self.term(kind, named)
+                    add(kind)
                 body = self.term(term, params[0])
                 for p in params[1:count]:
                     body = re.sub(rf"(?<![\w.\-'₀-₉]){re.escape(p)}(?![\w\-'₀-₉])", "c", body)
@@ -329,8 +411,8 @@ class Turn:
 
     def answers(self, answers):
         out = []
-        for _, goal in self.names["needs"]:
-            if goal not in answers:
+        for old, goal in self.names["needs"]:
+            if goal not in answers or norm(old).startswith("same-length"):
                 continue
             kind, it = answers[goal]
             self.unfolded = set()
@@ -356,7 +438,7 @@ class Turn:
                 continue
             term = self.term(term, var)
             lets = self.lets(term).replace("\x01", "")
-            term = term.replace("\x01", "")
+            term = self.record(term.replace("\x01", ""), self.asked(goal, old))
             if self.unfolded:
                 mine = [x for line in unfolding for x in line.split()[1:]]
                 unfolding = ["unfolding " + " ".join(mine + sorted(self.unfolded - set(mine)))]
@@ -364,6 +446,17 @@ class Turn:
                 term = "\n" + lets + "    " + term.strip()
             out.append((notes, goal, unfolding, term, False))
         return out
+
+    def asked(self, goal, old):
+        """The clauses that a goal covers."""
+        if goal.startswith("returns"):
+            return labels_of(self.crate, self.path, "ensures")
+        m = re.match(r"(.*)-requires(-\d+)?$", norm(old))
+        if m:
+            for callee in set(self.callee.values()) - {None}:
+                if norm(callee.split("::")[-1]) == m[1]:
+                    return labels_of(callee.split("::")[0], callee.replace("::", ".").partition(".")[2])
+        return []
 
     def write(self, inv, ans):
         os.remove(os.path.join(self.folder, "Proof.antt"))
@@ -419,8 +512,8 @@ class Turn:
         return re.search(rf"(?<![\w\-'₀-₉]){re.escape(word)}(?![\w\-'₀-₉])", body)
 
 
-def labels_of(crate, path):
-    """The names of a function's `requires`, in order."""
+def labels_of(crate, path, word="requires"):
+    """The names of a function's clauses of a kind, in order."""
     name = path.split(".")[-1].lstrip("+")
     best = []
     for folder, _, files in os.walk(f"crates/{crate}/src"):
@@ -430,8 +523,8 @@ def labels_of(crate, path):
             m = re.search(rf"\bfn {re.escape(name)}\b(.*?)\n\{{", text, re.S)
             where = os.path.splitext(f)[0]
             if m:
-                labels = re.findall(r"\n\s+requires\*?\s+(\w+)\s*\{", m[1])
-                unnamed = len(re.findall(r"\n\s+requires\*?\s*\{", m[1]))
+                labels = re.findall(rf"\n\s+{word}\*?\s+(\w+)\s*\{{", m[1])
+                unnamed = len(re.findall(rf"\n\s+{word}\*?\s*\{{", m[1]))
                 found = labels or [""] * unnamed
                 if where in path.split(".") or not best:
                     best = found

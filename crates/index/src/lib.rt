@@ -1,6 +1,7 @@
 // Reference ids in four bytes each: the distance above a base in steps of 8 bytes, plus one; an id that does not fit is kept whole in a list of
 // escapes, by place (`Copied`).
 #![tactic(auto)]
+
 pub mod code;
 
 ghost use Rattle.std.specs.Prelude.{length};

@@ -1,5 +1,5 @@
 -- Hints as they are written: a place in its bucket, and the places from the last one down. Assumes nothing.
-use Prim.Native.Nat.{ℕ, suc, ◌+◌, ◌-◌, ◌*◌, ◌/◌, ◌%◌, ◌≤◌, ◌<◌}
+use Prim.Native.Nat.{ℕ, suc, ◌+◌, ◌-◌, ◌*◌, ◌/◌, ◌%◌, ◌≤◌, ◌<◌, zero}
 use native.Mathlib.Omega.{arith}
 use mathlib.Core.Path.{◌≡◌, refl, ◌∙◌}
 use mathlib.Core.List.{List}
@@ -30,6 +30,7 @@ hinting_none ids d = record { within = omega arith; same = refl; leads = refl }
 
 hints_more : (bucket : ℕ → ℕ) (d : List ℕ) (i : ℕ) → 0 < i → hints_to bucket (i - 1) (with_hint d (bucket (i - 1)) (i - 1)) ≡ hints_to bucket i d
 unfolding hints_to
+hints_more bucket d zero l = elim l [ ]
 hints_more bucket d (suc k) l = let e : suc k - 1 ≡ k = omega arith in rw e
 
 module _ {ids d₀ d : List ℕ} {i : ℕ} (m : Hinting ids d₀ d i) where

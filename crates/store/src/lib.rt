@@ -1,5 +1,6 @@
 // Offsets in two bytes each above a base for every 256 of them; one too far above its base is kept whole in a long list, by place (`Blocked`).
 #![tactic(auto)]
+
 pub mod code;
 
 ghost use Rattle.std.specs.Prelude.{length};

@@ -4,41 +4,35 @@ use Rattle.store.specs.Blocked.{coding_says, first_low, blocks_of, long_at_to}
 use Prim.Native.Nat.{◌≤◌, ◌<◌}
 use lib.ListN.{length}
 use native.Mathlib.Omega.{arith}
-use borrow.Author.Rules.{rules}
-use Rattle.store.proofs.code.judge.Statement.{statement}
-use Rattle.store.proofs.code.judge.Tie as tie
+use Rattle.store.proofs.code.judge.Goals as goal
 
-returns : tie.Need-returns
+pub returns-then-n-gt67108865 : goal.returns-then-n-gt67108865
 unfolding coding_says
-returns c =
-    let a = c.before.before.args in
+returns-then-n-gt67108865 c = let a = c.args in
     let vs = a.values.now in
     let many : 67108865 < length vs = omega arith in
     simp (lt-ltb _ _ many)
 
-returns-2 : tie.Need-returns-2
+pub returns-then-low-n : goal.returns-then-low-n
 unfolding coding_says
-returns-2 c =
-    let a = c.before.before.before.before.args in
+returns-then-low-n c = let a = c.args in
     let vs = a.values.now in
     let few : length vs ≤ 67108865 = omega arith in
     let low : first_low vs < length vs = omega arith in
-    simp (c.before.first-low.ensures, le-ltb _ _ few, lt-ltb _ _ low)
+    simp (c.first_low-low.ensures, le-ltb _ _ few, lt-ltb _ _ low)
 
-returns-3 : tie.Need-returns-3
+pub returns-then-nb-blocks : goal.returns-then-nb-blocks
 unfolding coding_says
-returns-3 c =
-    let a = c.before.before.before.before.before.args in
+returns-then-nb-blocks c = let a = c.args in
     let vs = a.values.now in
     let few : length vs ≤ 67108865 = omega arith in
     let risen : length vs ≤ first_low vs = omega arith in
     let full : a.nb < blocks_of (length vs) = omega arith in
     simp (le-ltb _ _ few, le-ltb _ _ risen, lt-ltb _ _ full)
 
-returns-4 : tie.Need-returns-4
+pub returns-then-ns-n : goal.returns-then-ns-n
 unfolding coding_says
-returns-4 c =
-    let a = c.before.before.before.before.before.before.args in
+returns-then-ns-n c = let a = c.args in
     let vs = a.values.now in
     let few : length vs ≤ 67108865 = omega arith in
     let risen : length vs ≤ first_low vs = omega arith in
@@ -46,10 +40,9 @@ returns-4 c =
     let full : a.ns < length vs = omega arith in
     simp (le-ltb _ _ few, le-ltb _ _ risen, le-ltb _ _ bases, lt-ltb _ _ full)
 
-returns-5 : tie.Need-returns-5
+pub returns-then-na-rows : goal.returns-then-na-rows
 unfolding coding_says
-returns-5 c =
-    let a = c.before.before.before.before.before.before.before.before.args in
+returns-then-na-rows c = let a = c.args in
     let vs = a.values.now in
     let few : length vs ≤ 67108865 = omega arith in
     let risen : length vs ≤ first_low vs = omega arith in
@@ -58,10 +51,9 @@ returns-5 c =
     let full : a.na < length (long_at_to vs (length vs)) = omega arith in
     simp (le-ltb _ _ few, le-ltb _ _ risen, le-ltb _ _ bases, le-ltb _ _ short, lt-ltb _ _ full)
 
-returns-6 : tie.Need-returns-6
+pub returns-then-nv-rows : goal.returns-then-nv-rows
 unfolding coding_says
-returns-6 c =
-    let a = c.before.before.before.before.before.before.before.before.before.args in
+returns-then-nv-rows c = let a = c.args in
     let vs = a.values.now in
     let few : length vs ≤ 67108865 = omega arith in
     let risen : length vs ≤ first_low vs = omega arith in
@@ -71,10 +63,9 @@ returns-6 c =
     let full : a.nv < length (long_at_to vs (length vs)) = omega arith in
     simp (le-ltb _ _ few, le-ltb _ _ risen, le-ltb _ _ bases, le-ltb _ _ short, le-ltb _ _ rows, lt-ltb _ _ full)
 
-returns-7 : tie.Need-returns-7
+pub returns : goal.returns
 unfolding coding_says
-returns-7 c =
-    let a = c.before.before.before.before.before.before.before.before.before.args in
+returns c = let a = c.args in
     let vs = a.values.now in
     let few : length vs ≤ 67108865 = omega arith in
     let risen : length vs ≤ first_low vs = omega arith in
@@ -82,19 +73,4 @@ returns-7 c =
     let short : length vs ≤ a.ns = omega arith in
     let rows : length (long_at_to vs (length vs)) ≤ a.na = omega arith in
     let values : length (long_at_to vs (length vs)) ≤ a.nv = omega arith in
-    simp (c.before.before.count_long.ensures, le-ltb _ _ few, le-ltb _ _ risen, le-ltb _ _ bases, le-ltb _ _ short, le-ltb _ _ rows, le-ltb _ _ values)
-
-pub judge_spec : {M : Type 1} → statement M
-judge_spec =
-    tie.close
-    (tie.spec
-    returns
-    (λ c κs. search rules)
-    returns-2
-    (λ c. search rules)
-    returns-3
-    returns-4
-    (λ c κs. search rules)
-    returns-5
-    returns-6
-    returns-7)
+    simp (c.count_long-rows.ensures, le-ltb _ _ few, le-ltb _ _ risen, le-ltb _ _ bases, le-ltb _ _ short, le-ltb _ _ rows, le-ltb _ _ values)
