@@ -4,7 +4,7 @@ use native.Mathlib.Omega.{arith}
 use mathlib.Core.Path.{◌≡◌}
 use mathlib.Core.Bool.{true, not}
 use mathlib.Core.List.{List}
-use borrow.Author.Tests.{lt-ltb, leb-false, eqb-true, not-true, not_false}
+use borrow.Author.Tests.{lt-ltb, leb-false, eqb-true, not-true, not-false}
 use lib.ListN.{length}
 use Rattle.columns.specs.Ranks.{Rises}
 use Rattle.columns.proofs.Ranks.{steps_rise}
@@ -28,4 +28,4 @@ module _ (c : Columns) (o : ℕ) (h : reads_back c o ≡ true) where
 
   pub edge_reads : (k : ℕ) → k < edges_in c o → label_reads c.labels (offset_at c o) k ≡ true
   unfolding reads_back
-  edge_reads k l = not_false _ (any_false (λ k. not (label_reads c.labels (offset_at c o) k)) (edges_in c o) k (not-true _ (each_of _ h 10)) l)
+  edge_reads k l = not-false _ (any_false (λ k. not (label_reads c.labels (offset_at c o) k)) (edges_in c o) k (not-true _ (each_of _ h 10)) l)

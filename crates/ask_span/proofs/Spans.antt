@@ -6,7 +6,7 @@ use mathlib.Core.List.{List, [], ◌∷◌, map}
 use Prim.Native.Nat.{ℕ, suc, ◌+◌, ◌-◌, ◌≤◌, ◌<◌}
 use native.Mathlib.Omega.{arith}
 use native.Mathlib.Numerals.{add-one}
-use borrow.Author.Tests.{leb-true, le-leb, lt-ltb, le-ltb, ltb-true, ltb-false, eqb-true, eqb-false, not-true, not_false}
+use borrow.Author.Tests.{leb-true, le-leb, lt-ltb, le-ltb, ltb-true, ltb-false, eqb-true, eqb-false, not-true, not-false}
 use lib.Dec.{ltb, leb, eqb}
 use lib.ListN.{length}
 use Rattle.columns.specs.Lists.{◌!◌, all_of}
@@ -161,7 +161,7 @@ module _ (c : Columns) (o : ℕ) where
   weak_ordered h i l = before (any_false (unsorted c.weak_from c.weak_to) _ (suc i) (not-true _ (each_of _ h 1)) l)
     where
       before : unsorted c.weak_from c.weak_to (suc i) ≡ false → pair_le (pair_at c.weak_from c.weak_to i) (pair_at c.weak_from c.weak_to (suc i)) ≡ true
-      before e = not_false _ (second_fails _ _ e (lt-ltb 0 (suc i) (omega arith)))
+      before e = not-false _ (second_fails _ _ e (lt-ltb 0 (suc i) (omega arith)))
 
   pub weak_climbs : weak_reads c ≡ true → Climbs c.weak_from
   unfolding Sorted

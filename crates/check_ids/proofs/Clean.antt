@@ -7,7 +7,7 @@ use Prim.Native.Nat.{ℕ, zero, suc, ◌+◌, ◌-◌, ◌*◌, ◌^◌, ◌≤�
 use native.Mathlib.Nat.{add-zero, add-suc}
 use native.Mathlib.Numerals.{add-one}
 use native.Mathlib.Omega.{arith}
-use borrow.Author.Tests.{eqb-true, eqb-false, leb-true, leb-false, not-true, not_false, lt-leb, eq-eqb, ne_eqb}
+use borrow.Author.Tests.{eqb-true, eqb-false, leb-true, leb-false, not-true, not-false, lt-leb, eq-eqb, ne_eqb}
 use lib.Dec.{eqb, leb}
 use lib.ListN.{length, take}
 use Rattle.columns.specs.Lists.{◌!◌, one, total, any_of}
@@ -65,7 +65,7 @@ module _ (c : Ids) (rise : Rises c.places) (every : (k : ℕ) → k < length c.p
 
   has_code : (k : ℕ) → k < length c.places → c.codes ! (c.places ! k) ≡ escaped_code
   unfolding escape_fault
-  has_code k l = eqb-true _ _ (not_false _ (none_of _ (every k l) 0))
+  has_code k l = eqb-true _ _ (not-false _ (none_of _ (every k l) 0))
 
   has_id : (k : ℕ) → k < length c.places → c.ids ! k ≡ 0 → ⊥
   unfolding escape_fault

@@ -6,7 +6,7 @@ use mathlib.Core.List.{List, [], ◌∷◌, ◌++◌, append-nil}
 use Prim.Native.Nat.{ℕ, zero, suc, ◌+◌, ◌-◌, ◌≤◌, ◌<◌, zero-le}
 use native.Mathlib.Numerals.{add-one}
 use native.Mathlib.Omega.{arith}
-use borrow.Author.Tests.{lt-ltb, le-ltb, ltb-false, le-leb, lt-leb, eq-eqb, ne_eqb, eqb-true, eqb-false, not_false}
+use borrow.Author.Tests.{lt-ltb, le-ltb, ltb-false, le-leb, lt-leb, eq-eqb, ne_eqb, eqb-true, eqb-false, not-false}
 use lib.Dec.{eqb, leb, ltb}
 use lib.ListN.{length, take}
 use Rattle.columns.specs.Lists.{◌!◌, places, first_place, part, all_of, any_of}
@@ -72,7 +72,7 @@ module _ (xs : List ℕ) (edges : ℕ) where
       let first = once-empty _ one.0 in
       record {
         some = some (eqb-false _ 0 (none_of _ first 0));
-        starts = eqb-true _ 0 (not_false _ (none_of _ first 1));
+        starts = eqb-true _ 0 (not-false _ (none_of _ first 1));
         rises = λ o k. ltb-false _ _ (places_none (below xs) (length xs) (suc o) one.1 k);
         ends = eqb-true _ _ (ended (eqb (xs ! last) edges) two.1);
       }

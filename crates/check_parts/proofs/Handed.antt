@@ -3,7 +3,7 @@ use mathlib.Core.Path.{◌≡◌, sym, ◌∙◌}
 use mathlib.Core.Bool.{Bool, true, false}
 use mathlib.Core.List.{List, [], ◌∷◌}
 use Prim.Native.Nat.{ℕ, ◌≤◌, ◌<◌}
-use borrow.Author.Tests.{lt-ltb, le-ltb, eqb-true, not_false}
+use borrow.Author.Tests.{lt-ltb, le-ltb, eqb-true, not-false}
 use lib.ListN.{length}
 use Rattle.columns.specs.Lists.{first_place, any_of}
 use Rattle.columns.proofs.Tests.{or_true, none_of}
@@ -45,7 +45,7 @@ module _ (s : Schema) (p : Parts) where
     even = chain ∙ rw (h1, h2)
 
     pub pairs-even : length p.weak_to ≡ length p.weak_from
-    pairs-even = eqb-true _ _ (not_false _ (none_of _ h2 0))
+    pairs-even = eqb-true _ _ (not-false _ (none_of _ h2 0))
 
     pub handed_limit : over_limit (objects_of p) s ≡ true → 2 ∷ 0 ∷ [] ≡ handed_says s p
     handed_limit h = sym (even ∙ rw h)

@@ -4,7 +4,7 @@ use mathlib.Core.Bool.{Bool, true, false, cond, not, ◌&&◌, ◌||◌, false�
 use mathlib.Core.List.{List, [], ◌∷◌}
 use Prim.Native.Nat.{ℕ, zero, suc, ◌+◌, ◌-◌, ◌*◌, ◌^◌, ◌≤◌, ◌<◌}
 use native.Mathlib.Omega.{arith}
-use borrow.Author.Tests.{eqb-true, not_false}
+use borrow.Author.Tests.{eqb-true, not-false}
 use lib.Dec.{eqb, leb, ltb}
 use lib.ListN.{length}
 use Rattle.columns.specs.Lists.{◌!◌, total, one, all_of, any_of}
@@ -87,7 +87,7 @@ module _ (c : Ids) (p : ℕ) where
 
   pub code-zero : bad_code c p ≡ false → eqb (copied_id c p) 0 ≡ eqb (c.codes ! p) 0
   unfolding bad_code copied_id
-  code-zero h = let a = not_false (accepts (id_back c p)) h in rw a (back-zero a)
+  code-zero h = let a = not-false (accepts (id_back c p)) h in rw a (back-zero a)
 
 part-total : (b : Bool) (f g : ℕ → ℕ) (n : ℕ) → (b ≡ true → (k : ℕ) → k < n → f k ≡ g k) → total f (cond b n 0) ≡ cond b (total g n) 0
 part-total true f g n h = total_ext f g n (h refl)

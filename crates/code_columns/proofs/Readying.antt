@@ -7,7 +7,7 @@ use mathlib.Core.Bool.{Bool, true, false, true≢false}
 use mathlib.Core.List.{List, [], ◌∷◌}
 use lib.Dec.{ltb, leb}
 use lib.ListN.{length}
-use borrow.Author.Tests.{eqb-true, ltb-true, leb-true, ltb-false, not_false}
+use borrow.Author.Tests.{eqb-true, ltb-true, leb-true, ltb-false, not-false}
 use Rattle.columns.specs.Lists.{◌!◌, any_of}
 use Rattle.columns.proofs.Lists.{lt_or_ge}
 use Rattle.columns.proofs.Tests.{none_of, each_of}
@@ -30,11 +30,11 @@ pub ready_ranges : (s : Schema) → schema_lengths s ≡ false → ((c : ℕ) �
 unfolding schema_lengths bad_class
 ready_ranges s lengths class =
     let k = none_of _ (none_of _ lengths 1) in
-    let a : length s.classes.slot_start ≡ class_count s = eqb-true _ _ (not_false _ (k 0)) in
-    let b : length s.classes.slot_end ≡ class_count s = eqb-true _ _ (not_false _ (k 1)) in
-    let d : length s.classes.static_start ≡ class_count s = eqb-true _ _ (not_false _ (k 2)) in
-    let e : length s.classes.static_end ≡ class_count s = eqb-true _ _ (not_false _ (k 3)) in
-    let labels : length s.slots.labels ≡ length s.slots.offsets = eqb-true _ _ (not_false _ (none_of _ (none_of _ lengths 2) 0)) in
+    let a : length s.classes.slot_start ≡ class_count s = eqb-true _ _ (not-false _ (k 0)) in
+    let b : length s.classes.slot_end ≡ class_count s = eqb-true _ _ (not-false _ (k 1)) in
+    let d : length s.classes.static_start ≡ class_count s = eqb-true _ _ (not-false _ (k 2)) in
+    let e : length s.classes.static_end ≡ class_count s = eqb-true _ _ (not-false _ (k 3)) in
+    let labels : length s.slots.labels ≡ length s.slots.offsets = eqb-true _ _ (not-false _ (none_of _ (none_of _ lengths 2) 0)) in
     record {
       slot_starts = omega arith;
       slot_ends = omega arith;
@@ -42,7 +42,7 @@ ready_ranges s lengths class =
       static_ends = omega arith;
       slots = λ c h. (ltb-false _ _ (none_of _ (class c h) 2), omega (arith, ltb-false (length s.slots.offsets) (s.classes.slot_end ! c) (none_of _ (class c h) 3)));
       statics = λ c h. (ltb-false _ _ (none_of _ (class c h) 4), ltb-false _ _ (none_of _ (class c h) 5));
-      types = eqb-true _ _ (not_false _ (none_of _ (none_of _ lengths 3) 0));
+      types = eqb-true _ _ (not-false _ (none_of _ (none_of _ lengths 3) 0));
     }
 
 -- the object that an edge is of

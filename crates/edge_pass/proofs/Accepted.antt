@@ -7,7 +7,7 @@ use mathlib.Core.Path.{◌≡◌, refl, sym, ap, subst, ◌∙◌}
 use mathlib.Core.Bool.{Bool, true, false, cond}
 use mathlib.Core.List.{List, [], ◌∷◌, ◌++◌}
 use lib.ListN.{length}
-use borrow.Author.Tests.{eqb-true, eq-eqb, lt-ltb, not_false}
+use borrow.Author.Tests.{eqb-true, eq-eqb, lt-ltb, not-false}
 use Rattle.columns.specs.Lists.{◌!◌, places}
 use Rattle.columns.proofs.Lists.{places-hit, places_miss}
 use Rattle.columns.proofs.Tests.{none_of, second_fails, no_places}
@@ -91,7 +91,7 @@ module _ (x : Input) (p : Passed x) where
     array_body r e k =
         let two : x.objects.kinds ! o < 2 = omega arith in
         let b : bad_part x x.route o ≡ false = second_fails _ _ (h.span o l) (lt-ltb _ 2 two) in
-        eqb-true _ _ (not_false _ (second_fails _ _ (none_of _ (rw e at b) 1) (eq-eqb _ _ k)))
+        eqb-true _ _ (not-false _ (second_fails _ _ (none_of _ (rw e at b) 1) (eq-eqb _ _ k)))
 
     size_short : (r : Raw) → x.route ≡ raw r → r.size ≤ 8
     size_short r e = size_allowed r (ap bad_size (sym e) ∙ size_good x h)

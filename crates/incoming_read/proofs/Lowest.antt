@@ -7,7 +7,7 @@ use mathlib.Core.Logic.{⊎_elim}
 use mathlib.Core.Bool.{Bool, true, false, not, false≢true}
 use mathlib.Core.List.{List}
 use lib.ListN.{length, get_or}
-use borrow.Author.Tests.{not_false}
+use borrow.Author.Tests.{not-false}
 use Rattle.columns.specs.Lists.{any, places}
 use Rattle.columns.proofs.Lists.{lt_or_ge, first_none, first-hit}
 use Rattle.columns.proofs.Tests.{each_of, none_any, no_places}
@@ -21,7 +21,7 @@ unread c o = not (can_read c o)
 
 -- "The lowest object that can't be read back" is none exactly where each can be.
 pub unread_none : (c : Columns) → first_unread c ≡ objects_in c → (o : ℕ) → o < objects_in c → can_read c o ≡ true
-unread_none c e o l = not_false _ (first_none (λ o. not (can_read c o)) (objects_in c) o (omega (arith, e)) l)
+unread_none c e o l = not-false _ (first_none (λ o. not (can_read c o)) (objects_in c) o (omega (arith, e)) l)
 
 pub none_unread : (c : Columns) → ((o : ℕ) → o < objects_in c → can_read c o ≡ true) → first_unread c ≡ objects_in c
 none_unread c h = ap (λ (xs : List ℕ). get_or xs 0 (objects_in c)) (no_places (λ o. not (can_read c o)) (objects_in c) (λ o l. ap not (h o l)))

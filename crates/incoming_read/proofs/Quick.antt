@@ -7,7 +7,7 @@ use mathlib.Core.Bool.{Bool, true, false, cond, not}
 use mathlib.Core.List.{[], ◌∷◌}
 use lib.Dec.{leb, ltb}
 use lib.ListN.{length}
-use borrow.Author.Tests.{lt-ltb, ltb-true, le-leb, lt-leb, leb-true, ne_eqb, not-true, not_false}
+use borrow.Author.Tests.{lt-ltb, ltb-true, le-leb, lt-leb, leb-true, ne_eqb, not-true, not-false}
 use Rattle.columns.specs.Lists.{◌!◌, any, all_of}
 use Rattle.columns.proofs.Tests.{each_of, any_false, none_any}
 use Rattle.rules.specs.Types.{array_element_label, is_element}
@@ -82,7 +82,7 @@ module _ (d : Coded) (from to : ℕ) where
     plain_code p a b =
         let at : from + (p - from) ≡ p = omega arith in
         let is : is_plain (length d.fields) (d.codes ! (from + (p - from))) ≡ true
-        = not_false _ (any_false (λ k. not (is_plain (length d.fields) (d.codes ! (from + k)))) (to - from) (p - from) (not-true _ (each_of _ h 0)) (omega arith)) in
+        = not-false _ (any_false (λ k. not (is_plain (length d.fields) (d.codes ! (from + k)))) (to - from) (p - from) (not-true _ (each_of _ h 0)) (omega arith)) in
         rw at at is
 
     plain-field : (i : ℕ) → i < length d.fields → is_element (d.fields ! i) ≡ false
@@ -98,7 +98,7 @@ module _ (c : Columns) (spans : not (any (λ o. not (span_reads c.offsets (lengt
   targets = length c.targets
 
   pub each-span : (o : ℕ) → o < objects_in c → span_reads c.offsets codes targets o ≡ true
-  each-span o l = not_false _ (any_false (λ o. not (span_reads c.offsets codes targets o)) (objects_in c) o (not-true _ spans) l)
+  each-span o l = not-false _ (any_false (λ o. not (span_reads c.offsets codes targets o)) (objects_in c) o (not-true _ spans) l)
 
   pub span_climbs : (o : ℕ) → o < objects_in c → offset_at c o ≤ offset_at c (suc o)
   span_climbs o l = (span_meets c.offsets codes targets o l (each-span o l)).ordered
@@ -140,7 +140,7 @@ module _ (c : Columns) (spans : not (any (λ o. not (span_reads c.offsets (lengt
 
     few : edges_in c o ≤ 65536
     unfolding is_narrow
-    few = leb-true _ _ (not_false _ (any_false (λ o. not (is_narrow c.offsets o)) (objects_in c) o (not-true _ narrow) l))
+    few = leb-true _ _ (not-false _ (any_false (λ o. not (is_narrow c.offsets o)) (objects_in c) o (not-true _ narrow) l))
 
     targets-read : objects_only (objects_in c) c.targets (offset_at c o) (edges_in c o) ≡ true
     unfolding objects_only

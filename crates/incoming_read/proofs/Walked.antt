@@ -8,7 +8,7 @@ use mathlib.Core.List.{List, [], ◌∷◌}
 use mathlib.Core.Option.{none, some}
 use lib.Dec.{eqb, leb, ltb}
 use lib.ListN.{length}
-use borrow.Author.Tests.{lt-ltb, ltb-true, not_false}
+use borrow.Author.Tests.{lt-ltb, ltb-true, not-false}
 use Rattle.columns.specs.Lists.{◌!◌, any, find, found, lookup, all_of}
 use Rattle.columns.specs.Ranks.{Rises, bisect}
 use Rattle.columns.proofs.Search.{find-bisect, lookup-find}
@@ -127,5 +127,5 @@ module _ (d : Coded) (rise : Rises d.escape_at) (same : length d.escape_at ≡ l
       go : (b : Bool) → any bad n ≡ b → something (next_back d e n) ≡ not b → something (onward (λ m. next_of m (step_back d e n m)) (next_back d e n)) ≡ not (b || not (label_reads d e n))
       go true q ih = rw (something_none (next_back d e n) ih)
       go false q ih =
-          rw (next-back d rise same e n (λ j l. not_false _ (any_false bad n j q l)))
+          rw (next-back d rise same e n (λ j l. not-false _ (any_false bad n j q l)))
           (something-next (expected_at d e n) (step_back d e n (expected_at d e n)) ∙ step_reads e n ∙ twice (label_reads d e n))

@@ -2,7 +2,7 @@
 use mathlib.Core.Path.{◌≡◌}
 use mathlib.Core.Bool.{false}
 use lib.ListN.{length}
-use borrow.Author.Tests.{eqb-true, not_false}
+use borrow.Author.Tests.{eqb-true, not-false}
 use Rattle.columns.proofs.Tests.{none_of}
 use Rattle.rules.specs.Input.{Input, Schema, Copied, Raw, Route.copied, Route.raw, object_count, class_count}
 use Rattle.rules.specs.Verdict.{schema_lengths, route_lengths, bad_lengths}
@@ -26,17 +26,17 @@ unfolding schema_lengths
 schema_even s h =
     let d = none_of _ h in
     record {
-      loaders = eqb-true _ _ (not_false _ (none_of _ (d 0) 0));
-      dumped = eqb-true _ _ (not_false _ (none_of _ (d 0) 1));
-      kinds = eqb-true _ _ (not_false _ (none_of _ (d 0) 2));
-      slot_starts = eqb-true _ _ (not_false _ (none_of _ (d 1) 0));
-      slot_ends = eqb-true _ _ (not_false _ (none_of _ (d 1) 1));
-      static_starts = eqb-true _ _ (not_false _ (none_of _ (d 1) 2));
-      static_ends = eqb-true _ _ (not_false _ (none_of _ (d 1) 3));
-      slot_labels = eqb-true _ _ (not_false _ (none_of _ (d 2) 0));
-      slot_weak = eqb-true _ _ (not_false _ (none_of _ (d 2) 1));
-      static_types = eqb-true _ _ (not_false _ (none_of _ (d 3) 0));
-      static_values = eqb-true _ _ (not_false _ (none_of _ (d 3) 1));
+      loaders = eqb-true _ _ (not-false _ (none_of _ (d 0) 0));
+      dumped = eqb-true _ _ (not-false _ (none_of _ (d 0) 1));
+      kinds = eqb-true _ _ (not-false _ (none_of _ (d 0) 2));
+      slot_starts = eqb-true _ _ (not-false _ (none_of _ (d 1) 0));
+      slot_ends = eqb-true _ _ (not-false _ (none_of _ (d 1) 1));
+      static_starts = eqb-true _ _ (not-false _ (none_of _ (d 1) 2));
+      static_ends = eqb-true _ _ (not-false _ (none_of _ (d 1) 3));
+      slot_labels = eqb-true _ _ (not-false _ (none_of _ (d 2) 0));
+      slot_weak = eqb-true _ _ (not-false _ (none_of _ (d 2) 1));
+      static_types = eqb-true _ _ (not-false _ (none_of _ (d 3) 0));
+      static_values = eqb-true _ _ (not-false _ (none_of _ (d 3) 1));
     }
 
 module _ (x : Input) (h : bad_lengths x ≡ false) where
@@ -52,14 +52,14 @@ module _ (x : Input) (h : bad_lengths x ≡ false) where
   unfolding bad_lengths
   objects-even =
       let d = none_of _ (none_of _ h 0) in
-      (eqb-true _ _ (not_false _ (d 0)), eqb-true _ _ (not_false _ (d 1)), eqb-true _ _ (not_false _ (d 2)))
+      (eqb-true _ _ (not-false _ (d 0)), eqb-true _ _ (not-false _ (d 1)), eqb-true _ _ (not-false _ (d 2)))
 
   pub copied-even : (c : Copied) → x.route ≡ copied c → (length c.ids.ids ≡ length c.ids.places) × (length c.starts ≡ object_count x)
   unfolding bad_lengths route_lengths
   copied-even c e =
       let d = rw e at (none_of _ h 2) in
-      (eqb-true _ _ (not_false _ (none_of _ (none_of _ d 0) 0)), eqb-true _ _ (not_false _ (none_of _ (none_of _ d 1) 0)))
+      (eqb-true _ _ (not-false _ (none_of _ (none_of _ d 0) 0)), eqb-true _ _ (not-false _ (none_of _ (none_of _ d 1) 0)))
 
   pub raw-even : (r : Raw) → x.route ≡ raw r → (length r.starts ≡ object_count x) × (length r.lengths ≡ object_count x)
   unfolding bad_lengths route_lengths
-  raw-even r e = let d = none_of _ (rw e at (none_of _ h 2)) in (eqb-true _ _ (not_false _ (d 0)), eqb-true _ _ (not_false _ (d 1)))
+  raw-even r e = let d = none_of _ (rw e at (none_of _ h 2)) in (eqb-true _ _ (not-false _ (d 0)), eqb-true _ _ (not-false _ (d 1)))

@@ -5,7 +5,7 @@ use mathlib.Core.Path.{◌≡◌, refl, sym, ap, ◌∙◌}
 use mathlib.Core.Bool.{true, false, false≢true}
 use mathlib.Core.List.{List, [], ◌∷◌, ◌++◌}
 use lib.ListN.{length}
-use borrow.Author.Tests.{eqb-true, ltb-false, not_false}
+use borrow.Author.Tests.{eqb-true, ltb-false, not-false}
 use Rattle.columns.specs.Lists.{◌!◌, places, any_of}
 use Rattle.columns.specs.Columns.{accepts}
 use Rattle.columns.proofs.Tests.{none_of, append-empty, places_none}
@@ -55,7 +55,7 @@ handed-passed s p e =
     let one = once-empty _ (at-empty 1 _ e2.0) in
     record {
       lengths = none_of _ one 0;
-      even = sym (eqb-true _ _ (not_false _ (none_of _ (none_of _ one 1) 0)));
+      even = sym (eqb-true _ _ (not-false _ (none_of _ (none_of _ one 1) 0)));
       limits = once-empty _ (at-empty 2 _ e2.1);
       class = λ c h. places_none (bad_class s) _ c (at-empty 4 _ e3.1) h;
       labels = ltb-false _ _ (once-empty _ (at-empty 8 _ e4.1));

@@ -8,7 +8,7 @@ use mathlib.Core.Bool.{Bool, true, false, cond, false≢true}
 use mathlib.Core.List.{List, [], ◌∷◌}
 use lib.Dec.{eqb, leb, ltb}
 use lib.ListN.{length, length-take, length-drop, get_or-eq_default}
-use borrow.Author.Tests.{leb-false, eqb-true, not_false}
+use borrow.Author.Tests.{leb-false, eqb-true, not-false}
 use Rattle.columns.specs.Lists.{◌!◌, all_of, any_of, part}
 use Rattle.columns.specs.Columns.{accepts}
 use Rattle.columns.specs.Ranks.{bisect}
@@ -76,7 +76,7 @@ raw-fits r p h =
 -- So in an accepted input, where the size is 4 or 8, it has 64 bits.
 pub raw_64 : (x : Input) → Passed x → (r : Raw) → x.route ≡ raw r → ((i : ℕ) → r.bytes ! i < 256) → (p : ℕ) → raw_id r p < 2 ^ 64
 unfolding bad_size any_of
-raw_64 x h r e bytes p = go (eqb r.size 4) refl (eqb r.size 8) refl (not_false _ (ap bad_size (sym e) ∙ size_good x h.sound))
+raw_64 x h r e bytes p = go (eqb r.size 4) refl (eqb r.size 8) refl (not-false _ (ap bad_size (sym e) ∙ size_good x h.sound))
   where
     go : (a : Bool) → eqb r.size 4 ≡ a → (b : Bool) → eqb r.size 8 ≡ b → any_of (a ∷ b ∷ []) ≡ true → raw_id r p < 2 ^ 64
     go true s b t q = let z : r.size ≡ 4 = eqb-true r.size 4 s in let b : 256 ^ r.size

@@ -10,7 +10,7 @@ use mathlib.Core.Bool.{Bool, true, false, not}
 use mathlib.Core.List.{List, [], ◌∷◌, ◌++◌, map, map-map}
 use lib.Dec.{eqb}
 use lib.ListN.{length, take, length-map}
-use borrow.Author.Tests.{eqb-true, leb-true, leb-false, ltb-true, not-true, not_false}
+use borrow.Author.Tests.{eqb-true, leb-true, leb-false, ltb-true, not-true, not-false}
 use Rattle.columns.specs.Lists.{◌!◌, collect, places, total, one, count}
 use Rattle.columns.specs.Columns.{zeros, accepts, leaves}
 use Rattle.columns.specs.Ranks.{Rises}
@@ -194,7 +194,7 @@ module _ (c : Columns) (can : (o : ℕ) → o < objects_in c → can_read c o �
 -- "COLUMNS at the lowest object that can't be read back": none is listed where all read.
 pub none_unreadable : (c : Columns) → unreadable c ≡ [] → (o : ℕ) → o < objects_in c → can_read c o ≡ true
 unfolding unreadable
-none_unreadable c e o l = not_false _ (places_none (λ o. not (can_read c o)) (objects_in c) o e l)
+none_unreadable c e o l = not-false _ (places_none (λ o. not (can_read c o)) (objects_in c) o e l)
 
 pub all_readable : (c : Columns) → ((o : ℕ) → o < objects_in c → can_read c o ≡ true) → unreadable c ≡ []
 unfolding unreadable

@@ -6,7 +6,7 @@ use mathlib.Core.Bool.{Bool, true, false, cond, not, false≢true}
 use mathlib.Core.List.{List, [], ◌∷◌, map}
 use lib.Dec.{eqb, ltb}
 use lib.ListN.{length}
-use borrow.Author.Tests.{eqb-true, eqb-false, leb-false, ltb-false, lt-ltb, le-ltb, lt-leb, eq-eqb, ne_eqb, not_false}
+use borrow.Author.Tests.{eqb-true, eqb-false, leb-false, ltb-false, lt-ltb, le-ltb, lt-leb, eq-eqb, ne_eqb, not-false}
 use Rattle.columns.specs.Lists.{◌!◌, places, all_of, any_of}
 use Rattle.columns.proofs.Tests.{none_of, second_fails, all_fails, append-empty, collect_none, collect-empty, map-empty, no_places, places_none}
 use Rattle.rules.specs.Types.{array_element_label, is_element}
@@ -71,16 +71,16 @@ module _ (names : ℕ) (p : Parts) where
       let count : length p.targets ≡ length p.labels = eqb-true _ _ (cond-empty _ _ t.1) in
       record {
         some = positive _ some;
-        starts = eqb-true _ 0 (not_false _ (none_of _ first 1));
+        starts = eqb-true _ 0 (not-false _ (none_of _ first 1));
         rises = λ o l. ltb-false _ _ (places_none (below p.offsets) (length p.offsets) (suc o) o1.1 (omega arith));
         ends = eqb-true _ _ (cond-empty _ _ o2.1);
-        named = λ o k l n. not_false _ (none_of _ (label o k l n) 0);
+        named = λ o k l n. not-false _ (none_of _ (label o k l n) 0);
         elements = λ o k l n t. ltb-false _ _ (second_fails _ _ (none_of _ (label o k l n) 1) t);
         counted = count;
         targets = λ e l. leb-false _ _ (places_none (no_object m p.targets) _ e t.0 (omega arith));
         weak_from = λ i l. leb-false _ _ (none_of _ (pair i l) 0);
         weak_to = λ i l. leb-false _ _ (none_of _ (pair i l) 1);
-        weak_sorted = λ i l. not_false _ (second_fails _ _ (none_of _ (pair (suc i) l) 2) (lt-ltb 0 (suc i) (omega arith)));
+        weak_sorted = λ i l. not-false _ (second_fails _ _ (none_of _ (pair (suc i) l) 2) (lt-ltb 0 (suc i) (omega arith)));
         roots = λ i l. leb-false _ _ (places_none (bad_root m p.roots) _ i (column-empty 5 _ e5.1) l);
       }
 

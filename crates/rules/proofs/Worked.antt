@@ -31,7 +31,7 @@ use Rattle.rules.specs.Each.{first_refused, each_says, each_left}
 use Rattle.rules.specs.Worked.{wrong, table, graph_cases, enough, empty}
 
 pub worked : wrong table ≡ []
-unfolding table graph_cases enough empty tab places all_of any_of any over padded accepts leaves rank front halve behind bisect blocked long_back short_back store.readBack inline
+unfolding table graph_cases enough empty tab places all_of any_of any over padded accepts leaves rank front halve behind bisect blocked long_back short_back store.read_back inline
     code_of copied_of whole escape_back id_back keeps slot_count element_count copied_id raw_id id_at slot_id element_spot element_id fits slot_fits read_slots
     slot_kept found_at classes_at slot_ref element_ref static_ref static_refs loader_ref class_refs slot_refs other_refs refs outcome edges_of weak_targets missing_at edges
     offset weak_pairs distinct_roots graph has_place ref_place unread places_of place_count named occurring listed ranked fields_of field_code code_table codes_of

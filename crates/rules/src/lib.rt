@@ -1,5 +1,6 @@
 // The types that all crates name: labels, kinds, the policy, refusals and answers. specs/Types.antt gives document 01's number and values for each.
 #![tactic(auto)]
+
 ghost use Rattle.std.specs.Prelude.{◌≡◌};
 ghost use Rattle.rules.specs.Types.{loader_label, element_label, is_element, keeps, built_says};
 ghost use Rattle.columns.specs.Columns.{accepts};

@@ -1,7 +1,7 @@
 -- `build_edges::weak_raw` meets its contract. Of a refused input nothing is asked. Assumes nothing.
 use mathlib.Core.Path.{◌≡◌, sym, ap, ◌∙◌}
 use mathlib.Core.Bool.{true≢false}
-use borrow.Author.Tests.{not-true, not_false}
+use borrow.Author.Tests.{not-true, not-false}
 use native.Mathlib.Omega.{arith}
 use mathlib.Core.Logic.{inl}
 use Rattle.need_weak.specs.Pairs.{most_weak}
@@ -21,7 +21,7 @@ returns c = λ ok. absurd (true≢false (sym ok ∙ (sym c.before.passed.ensures
 
 most-weak-requires : tie.Need-most-weak-requires
 most-weak-requires c κs =
-    let h = (begun c.before).requires (sym c.before.passed.ensures ∙ not_false _ c.if1.false) in
+    let h = (begun c.before).requires (sym c.before.passed.ensures ∙ not-false _ c.if1.false) in
     ((omega (arith, h.even, h.objects.few), omega (arith, h.even, h.objects.class), h.few), λ o l. slots_flags (h.slots o (omega (arith, h.even))))
 
 returns-2 : tie.Need-returns-2
@@ -29,7 +29,7 @@ returns-2 c = λ ok.
     let t = c.before.before.before in
     let d = begun t.before in
     let a = d.args in
-    let h = d.pre (sym t.before.passed.ensures ∙ not_false _ t.if1.false) in
+    let h = d.pre (sym t.before.passed.ensures ∙ not-false _ t.if1.false) in
     fits_most
     (most_weak a.kinds.now a.classes.now a.class-kinds.now a.slot_starts.now a.slot_ends.now a.slot_weak.now a.policy)
     a.weak_from a.weak_to h.even
@@ -40,7 +40,7 @@ returns-2 c = λ ok.
 count-weak-raw-requires : tie.Need-count-weak-raw-requires
 count-weak-raw-requires c κs =
     let t = c.before.before.before in
-    let h = (begun t.before).requires (sym t.before.passed.ensures ∙ not_false _ t.if1.false) in
+    let h = (begun t.before).requires (sym t.before.passed.ensures ∙ not-false _ t.if1.false) in
     ((h.objects, h.bodies_long, h.few), (h.slots, h.body))
 
 returns-3 : tie.Need-returns-3

@@ -51,8 +51,8 @@ same : (c : tie.After-judge-copied) → length c.judge-copied.new.1.1.1.1.1.1.1.
 same c = c.judge-copied.auto.1.1.1.1.1.1.1.1.1.1.1.1.1.1.1.1.1.1.1.1.1.1.1.1.1.0 ∙ zeroed_length (from-judge-copied c).args.working.now c.before.before.before.before.zero-u64.ensures
 
 same-places : (c : tie.After-judge-copied) → accepts (checked_says c.judge-copied.result) ≡ true → let x = input (from-judge-copied c) in let k = x.schema.classes in
-    place_count x ≡ copied_places x.objects.ids x.objects.kinds x.objects.classes x.objects.lengths k.ids k.loaders k.dumped k.kinds k.slotStart
-    k.slotEnd k.staticStart k.staticEnd x.schema.slots.weak x.schema.statics.types x.schema.statics.values (from-judge-copied c).args.codes.now
+    place_count x ≡ copied_places x.objects.ids x.objects.kinds x.objects.classes x.objects.lengths k.ids k.loaders k.dumped k.kinds k.slot_start
+    k.slot_end k.static_start k.static_end x.schema.slots.weak x.schema.statics.types x.schema.statics.values (from-judge-copied c).args.codes.now
     (from-judge-copied c).args.starts.now x.policy
 same-places c ok =
     copied_counted (input (from-judge-copied c)) (sound (input (from-judge-copied c)) _ (said c) ok) _ refl

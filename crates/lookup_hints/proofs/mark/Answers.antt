@@ -7,7 +7,7 @@ pub loop-i-init : goal.loop-i-init
 loop-i-init c = hinting_none _ _
 
 pub loop-i-preserved : goal.loop-i-preserved
-loop-i-preserved c = hinting_more c.loop-i.invariant (omega arith) c.scale-scale.ensures c.step_of_lem.ensures c.put.ensures
+loop-i-preserved c = hinting_more c.loop-i.invariant (omega arith) c.scale-scale.ensures c.step_of.ensures c.put.ensures
     c.put.auto.0
 
 pub returns : goal.returns

@@ -1,7 +1,7 @@
 -- `edge_pass::raw::edges_raw` meets its contract: a refusal stands, and else one pass goes over all objects. Assumes nothing.
 use native.Mathlib.Omega.{arith}
 use mathlib.Core.Path.{sym, ◌∙◌}
-use borrow.Author.Tests.{not-true, not_false}
+use borrow.Author.Tests.{not-true, not-false}
 use Rattle.rules.specs.Input.{Input}
 use Rattle.rules.specs.Tables.{object_table, slot_table, static_table, raw_route}
 use Rattle.edge_pass.specs.Tables.{pass_classes, pass_input}
@@ -39,7 +39,7 @@ walk-raw-requires : tie.Need-walk-raw-requires
 walk-raw-requires c κs =
     let e = c.before.before.before.before.before.before.before.before in
     let d = begun e.before in
-    let h = d.pre (sym e.before.accepted.ensures ∙ not_false _ e.if1.false) in
+    let h = d.pre (sym e.before.accepted.ensures ∙ not-false _ e.if1.false) in
     let p = c.before.before.before.before.before.before.begun in
     (from_passable h tt p.ensures, from-account h p.result)
 
@@ -62,7 +62,7 @@ returns-2 : tie.Need-returns-2
 returns-2 c =
     let w = at-walk c in
     let e = w.before.before.before.before.before.before.before.before.before in
-    edged_from (input (begun e.before)) (sym e.before.accepted.ensures ∙ not_false _ e.if1.left)
+    edged_from (input (begun e.before)) (sym e.before.accepted.ensures ∙ not-false _ e.if1.left)
     w.before.before.before.before.before.before.before.begun.ensures w.walk-raw.ensures c.with-pass.ensures
 
 pub edges-raw_spec : {M : Type 1} → statement M

@@ -70,8 +70,8 @@ loop-again c =
     let a = s2.args in
     let k = l.loop.c in
     let s = naming a.slot_starts.now a.slot_ends.now a.static_starts.now a.static_ends.now a.slot_labels.now a.static-names.now a.static_types.now in
-    let xs = slots_named s.labels (s.slotStart ! k) (s.slotEnd ! k - s.slotStart ! k) in
-    let ys = statics_named s.names s.types (s.staticStart ! k) (s.staticEnd ! k - s.staticStart ! k) in
+    let xs = slots_named s.labels (s.slot_start ! k) (s.slot_end ! k - s.slot_start ! k) in
+    let ys = statics_named s.names s.types (s.static_start ! k) (s.static_end ! k - s.static_start ! k) in
     let first = rw (at-index.index.ensures, at-index2.index2.ensures) at at-mark-slots.mark-slots.ensures in
     let second = rw (at-index3.index3.ensures, at-index4.index4.ensures) at c.before.before.mark-statics.ensures in
     (search rules, marking_more ys (marking_more xs l.loop.invariant.1 refl first) (named_more s k) second)
