@@ -8,7 +8,7 @@ loop-i-init c = hinting_none _ _
 
 pub loop-i-preserved : goal.loop-i-preserved
 loop-i-preserved c = hinting_more c.loop-i.invariant (omega arith) c.scale-scale.ensures c.step_of.ensures c.put.ensures
-    c.put.auto.0
+    c.put.auto.short
 
 pub returns : goal.returns
 returns c = hinting_all c.loop-i.invariant (omega arith)
