@@ -1,5 +1,6 @@
 // An object's part of a column, by its span. `ask_span` passes these on.
 #![tactic(auto)]
+
 ghost use Rattle.std.specs.Prelude.{◌≡◌};
 ghost use Rattle.rules.specs.Types.{span_says};
 ghost use Rattle.ask_part.specs.Part.{span_part};
