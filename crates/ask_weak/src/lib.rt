@@ -1,5 +1,6 @@
 // Where an object's weak pairs sit. `ask_span` passes this on.
 #![tactic(auto)]
+
 ghost use Rattle.std.specs.Prelude.{◌≡◌, ◌+◌, ◌^◌, ◌<◌, length};
 ghost use Rattle.rules.specs.Types.{weak_says};
 ghost use Rattle.ask_weak.specs.Rows.{weak_end, weak_rows_of};
