@@ -1,6 +1,7 @@
 // What is weak: whether a slot is kept; and the weak pairs of one object, a run of the two weak columns, "sorted by object, then target, repeats kept".
 // `edge_append` appends with these.
 #![tactic(auto)]
+
 ghost use Rattle.std.specs.Prelude.{◌≡◌, ◌-◌, ◌≤◌, length, replicate};
 ghost use Rattle.std.proofs.lemmas.List.Edits.{sets};
 ghost use Rattle.edge_weak.specs.Weak.{kept_of, PairsSettled};
