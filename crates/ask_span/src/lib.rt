@@ -1,6 +1,7 @@
 // The questions of `Graph` about where an object's edges and weak pairs sit: over the used parts of a graph's columns, writing nothing.
 // The parts and the weak rows are read in crates of their own, and have their names here.
 #![tactic(auto)]
+
 ghost use Rattle.std.specs.Prelude.{◌≡◌, ◌<◌, [], ◌∷◌, length};
 ghost use Rattle.columns.specs.Loans.{now_of};
 ghost use Rattle.store.specs.Blocked.{offset_says};
