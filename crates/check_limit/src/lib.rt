@@ -1,5 +1,6 @@
 // The limit of PLACES, whether a check accepts, and marks kept or cleared. `check_whole` passes these on.
 #![tactic(auto)]
+
 ghost use Rattle.std.specs.Prelude.{◌≡◌, cond, length};
 ghost use Rattle.columns.specs.Columns.{zeros, accepts};
 ghost use Rattle.rules.specs.Types.{checked_says};
