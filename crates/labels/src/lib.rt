@@ -1,6 +1,7 @@
 // Edge labels in two bytes each: what fields, codes and escapes are, and reading a label back (`Labels` and `EdgeLabels`). `label_fields` chooses the fields,
 // `label_codes` writes the codes.
 #![tactic(auto)]
+
 pub mod code;
 pub mod read;
 

@@ -7,8 +7,7 @@ use borrow.Author.Tests.{lt-leb, le-leb, lt-ltb, le-ltb}
 use lib.Dec.{ltb, leb}
 use Rattle.columns.proofs.Lists.{lt_or_ge}
 use Rattle.rules.specs.Types.{array_element_label}
-use Rattle.labels.proofs.read.fits.Statement.{statement}
-use Rattle.labels.proofs.read.fits.Tie as tie
+use Rattle.labels.proofs.read.fits.Goals as goal
 
 -- a code below 32,768 is a field's
 field : (c : ℕ) → ltb c 32768 ≡ beq false (leb 32768 c)
@@ -18,15 +17,8 @@ same : (b : Bool) → b ≡ beq true b
 same true = refl
 same false = refl
 
-returns : tie.Need-returns
-returns c = simp (lt-leb array_element_label _ c.if1.true) (field c.before.args.code)
+pub returns-then-label-lt-ARRAY_ELEMENT : goal.returns-then-label-lt-ARRAY_ELEMENT
+returns-then-label-lt-ARRAY_ELEMENT c = simp (lt-leb array_element_label _ c.if-label-lt-ARRAY_ELEMENT.true) (field c.args.code)
 
-returns-2 : tie.Need-returns-2
-returns-2 c = simp (le-leb array_element_label _ c.if1.false) (same (leb 32768 c.before.args.code))
-
-pub fits_spec : {M : Type 1} → statement M
-fits_spec =
-    tie.close
-    (tie.spec
-    returns
-    returns-2)
+pub returns : goal.returns
+returns c = simp (le-leb array_element_label _ c.if-label-lt-ARRAY_ELEMENT.false) (same (leb 32768 c.args.code))

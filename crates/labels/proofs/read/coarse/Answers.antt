@@ -1,0 +1,12 @@
+-- `labels::read::coarse` meets its contract: by whether the code is an element's. Assumes nothing.
+use borrow.Author.Tests.{lt-leb, le-leb}
+use Rattle.labels.specs.Reading.{coarse_back}
+use Rattle.labels.proofs.read.coarse.Goals as goal
+
+pub returns-then-code-ge-ELEMENT : goal.returns-then-code-ge-ELEMENT
+unfolding coarse_back
+returns-then-code-ge-ELEMENT c = simp (le-leb _ _ c.if-code-ge-ELEMENT.true)
+
+pub returns : goal.returns
+unfolding coarse_back
+returns c = simp (lt-leb _ _ c.if-code-ge-ELEMENT.false) c.read_code.ensures
