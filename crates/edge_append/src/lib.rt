@@ -1,6 +1,7 @@
 // The passes that turn an object's references into edges, weak targets and missing counts. "Work is done in passes over object ranges; each pass
 // hands its weak and missing numbers to the next pass."
 #![tactic(auto)]
+
 pub mod account;
 pub mod append;
 pub mod weak;
