@@ -1,5 +1,6 @@
 // One edge of an object: whether there is such an edge, the first one to a target, and a label that was read as an answer. `ask_label` asks with these.
 #![tactic(auto)]
+
 ghost use Rattle.std.specs.Prelude.{◌≡◌, ◌+◌, ◌≤◌, length};
 ghost use Rattle.columns.specs.Lists.{first_place};
 ghost use Rattle.rules.specs.Types.{span_says, coarse_says, exact_says, label_of_says};
