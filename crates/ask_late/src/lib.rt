@@ -1,6 +1,7 @@
 // The exact label of an edge far behind the object's first (M-106): only the codes back to the nearest escaped element are read. Their gaps are added on the
 // way back, so that coming forward again is one addition.
 #![tactic(auto)]
+
 ghost use Rattle.std.specs.Prelude.{◌≡◌, ◌+◌, ◌≤◌, ◌<◌, length};
 ghost use Rattle.labels.specs.Reading.{read_says, coded_of, code_back, element_back, next_of};
 ghost use Rattle.ask_late.specs.Late.{late_back, late_next, after_steps, steps_of, block_steps};
