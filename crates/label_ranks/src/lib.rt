@@ -1,5 +1,6 @@
 // The most used fields, where more are listed than there are codes.
 #![tactic(auto)]
+
 ghost use Rattle.std.specs.Prelude.{◌≡◌, ◌≤◌, min, length};
 ghost use Rattle.columns.specs.Columns.{over, zeros};
 ghost use Rattle.labels.specs.Coding.{Room};
