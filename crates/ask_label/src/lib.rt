@@ -1,5 +1,6 @@
 // The labels of an object's edges: coarse and exact by the edge's number, and exact by its target.
 #![tactic(auto)]
+
 ghost use Rattle.std.specs.Prelude.{◌≡◌};
 ghost use Rattle.columns.specs.Loans.{now_of};
 ghost use Rattle.rules.specs.Types.{coarse_says, exact_says, label_of_says};
