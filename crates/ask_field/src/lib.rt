@@ -1,5 +1,6 @@
 // The target of an object's field, and of its weak reference where it has no such field.
 #![tactic(auto)]
+
 ghost use Rattle.std.specs.Prelude.{◌≡◌, [], ◌+◌, ◌<◌, ◌≤◌, length};
 ghost use Rattle.columns.specs.Loans.{now_of};
 ghost use Rattle.columns.specs.Lists.{◌!◌};
