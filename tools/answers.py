@@ -124,6 +124,7 @@ class Turn:
             for field, step, path_ in arm[2] if arm else []:
                 if step and path_:
                     self.arms[(norm(step), tuple(path_))] = (arm[0], field)
+        self.params = params_of(crate, path)
         self.needs = {norm(o): n for o, n in names["needs"]}
 
     def say(self, text):
@@ -279,6 +280,7 @@ class Turn:
                 text = text[: m.start()] + text[m.end() :]
             if text == before:
                 break
+        text = re.sub(r"\(\s*c\s*\)", "c", text)
         for n in ties:
             c = r"(?:\s+c(?![\w\-'₀-₉.]))" * self.kinds[n][1]
             text = re.sub(rf"\(\s*{re.escape(n)}{c}\s*\)", n, text)
@@ -287,15 +289,18 @@ class Turn:
 
     def dotted(self, m, aliases):
         if m[1] not in aliases and m[1] != "c":
-            return m[0]
+            return m[1] + "".join("." + (p.replace("-", "_") if p.replace("-", "_") in self.params else p) for p in m[2].split(".")[1:])
         parts = [p for p in m[2].split(".")[1:] if p != "before"]
         if not parts:
             return "c"
         if parts[0] == "pre":
             return "c." + ".".join(self.pre(parts[1:]))
-        head = parts[0]
+        head = parts[0] = {"good": "well_formed", "well-formed": "well_formed"}.get(parts[0], parts[0])
         if norm(head) not in self.steps and head.endswith("_lem") and norm(head[:-4]) in self.steps:
             parts[0] = head = head[:-4]
+        numbered = re.fullmatch(r"(.*?)-?\d+", head)
+        if norm(head) not in self.steps and numbered and norm(numbered[1]) in self.steps and not any(key[0] == norm(head) for key in self.arms):
+            parts[0] = head = numbered[1]
         for k in range(len(parts), 0, -1):
             arm = self.arms.get((norm(head), tuple(parts[1:k])))
             if arm:
@@ -510,6 +515,17 @@ class Turn:
             parts = [p for p in word.split("◌") if p]
             return all(p in body for p in parts)
         return re.search(rf"(?<![\w\-'₀-₉]){re.escape(word)}(?![\w\-'₀-₉])", body)
+
+
+def params_of(crate, path):
+    """The names of a function's parameters."""
+    out = set()
+    for folder, _, files in os.walk(f"crates/{crate}/src"):
+        for f in files:
+            with open(os.path.join(folder, f), encoding="utf-8") as it:
+                m = re.search(rf"\bfn {re.escape(path.split('.')[-1])}\b(.*?)\n?\{{", it.read(), re.S)
+            out |= set(re.findall(r"\b(\w+)\s*:", m[1])) if m else set()
+    return out
 
 
 def labels_of(crate, path, word="requires"):
