@@ -1,5 +1,6 @@
 // The fields that have codes: all that are listed, or of too many the most used.
 #![tactic(auto)]
+
 pub mod fields;
 
 ghost use Rattle.std.specs.Prelude.{◌≡◌, ◌≤◌, length};
