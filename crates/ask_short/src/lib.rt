@@ -2,6 +2,7 @@
 // whole question's; a refusal says only that the whole question is to be asked. So a host that asks here first lends few columns.
 // `ask_short_field` has the questions for a field.
 #![tactic(auto)]
+
 pub mod label;
 
 ghost use Rattle.std.specs.Prelude.{◌≡◌};
