@@ -1,5 +1,6 @@
 // The codes of all labels, by the code table, and their escapes.
 #![tactic(auto)]
+
 ghost use Rattle.std.specs.Prelude.{◌≡◌, ◌≤◌, ◌-◌, length};
 ghost use Rattle.columns.specs.Lists.{one};
 ghost use Rattle.columns.specs.Columns.{over};
