@@ -1,5 +1,6 @@
 // The narrow stages of a build: ROOM of the first four buffers, and the end, where every column is kept or cleared.
 #![tactic(auto)]
+
 ghost use Rattle.std.specs.Prelude.{◌≡◌, ◌+◌, ◌≤◌, min, cond};
 ghost use Rattle.rules.specs.Account.{no_account};
 ghost use Rattle.columns.specs.Columns.{kept};
