@@ -1,6 +1,7 @@
 // One object's edges, one at a time: a reader that holds the object's parts of the targets and of the codes and a position. The struct and the functions over it
 // are thin, and leave the work to functions on slices and numbers. `ask_edges` passes the reader on, and has all edges at once.
 #![tactic(auto)]
+
 pub mod own;
 
 ghost use Rattle.std.specs.Prelude.{◌≡◌};

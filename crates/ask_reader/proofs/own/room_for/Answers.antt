@@ -1,0 +1,17 @@
+-- `ask_reader::own::room_for` meets its contract: at each return the tests that led there say how many. Assumes nothing.
+use borrow.Author.Tests.{lt-ltb, le-ltb}
+use Rattle.columns.specs.Lists.{any_of}
+use Rattle.ask_reader.specs.Own.{own_room}
+use Rattle.ask_reader.proofs.own.room_for.Goals as goal
+
+pub returns-then-a-n : goal.returns-then-a-n
+unfolding own_room any_of
+returns-then-a-n c = simp (lt-ltb _ _ c.if-a-n.true)
+
+pub returns-then-b-n : goal.returns-then-b-n
+unfolding own_room any_of
+returns-then-b-n c = simp (le-ltb _ _ c.if-a-n.false, lt-ltb _ _ c.if-b-n.true)
+
+pub returns : goal.returns
+unfolding own_room any_of
+returns c = simp (le-ltb _ _ c.if-a-n.false, le-ltb _ _ c.if-b-n.false)
