@@ -1,6 +1,7 @@
 // The need of buffer 7 where more fields are listed than there are codes and buffer 9 is too short to rank them. Such a build ends refused, by 7 or by 9:
 // which of them needs the exact count, and that takes only the code table.
 #![tactic(auto)]
+
 ghost use Rattle.std.specs.Prelude.{◌≡◌, ◌+◌, ◌-◌, ◌≤◌, min, length};
 ghost use Rattle.columns.specs.Columns.{zeros};
 ghost use Rattle.rules.specs.Labels.{coded};
