@@ -1,5 +1,6 @@
 // Filling the three slot columns from slot rows: lent as three columns, or as a slice of structs.
 #![tactic(auto)]
+
 mod step;
 
 ghost use Rattle.std.specs.Prelude.{length};
