@@ -14,9 +14,7 @@ use Rattle.columns.proofs.Ranks.{bisect-rank}
 use Rattle.columns.proofs.Tests.{each_of}
 use Rattle.index.specs.Copied.{ids_of, id_back, escape_back}
 use Rattle.rules.specs.Input.{copied_id}
-use borrow.Author.Rules.{rules}
-use Rattle.edge_sources.proofs.escape.id_from.Statement.{statement}
-use Rattle.edge_sources.proofs.escape.id_from.Tie as tie
+use Rattle.edge_sources.proofs.escape.id_from.Goals as goal
 
 abbrev row_id : List ℕ → List ℕ → ℕ → ℕ → ℕ
 row_id ps vs i k = cond (accepts (escape_back ps vs i k)) (escape_back ps vs i k ! 1) 0
@@ -34,21 +32,9 @@ module _ (codes ps vs : List ℕ) (b i : ℕ) (e : all_of (ltb i (length codes) 
   from_row : {k : ℕ} → Rises ps → Ranked ps i k → {id : ℕ} → id ≡ row_id ps vs i k → id ≡ copied_id (ids_of codes ps vs b) i
   from_row {k} rise r e = e ∙ ap (row_id ps vs i) (r.ranked rise ∙ sym (bisect-rank ps i rise)) ∙ sym escaped_id
 
-returns : tie.Need-returns
-returns c =
-    let a = c.before.before.before.before.before.before.before.args in
-    from_row a.codes.now a.escape_places.now a.escape_ids.now a.base a.place (sym c.before.before.before.is-escaped.ensures ∙ c.before.before.if1.true) c.before.before.before.before.before.before.before.requires c.before.near.ensures c.at_row.ensures
+pub returns-then-is_escaped : goal.returns-then-is_escaped
+returns-then-is_escaped c = let a = c.args in
+    from_row a.codes.now a.escape_places.now a.escape_ids.now a.base a.place (sym c.is_escaped.ensures ∙ c.if-is_escaped.true) c.requires c.near-near.ensures c.at_row-id.ensures
 
-returns-2 : tie.Need-returns-2
-returns-2 c = c.id-held.ensures
-
-pub id_from_spec : {M : Type 1} → statement M
-id_from_spec =
-    tie.close
-    (tie.spec
-    (λ c κs. search rules)
-    (λ c κs. search rules)
-    (λ c κs. search rules)
-    returns
-    (λ c κs. search rules)
-    returns-2)
+pub returns : goal.returns
+returns c = c.id_held-id.ensures
