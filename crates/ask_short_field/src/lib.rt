@@ -1,5 +1,6 @@
 // The target of an object's field, and of its weak reference, by the short columns alone, as `ask_short` answers the other questions.
 #![tactic(auto)]
+
 ghost use Rattle.std.specs.Prelude.{◌≡◌, ◌+◌, ◌<◌, ◌≤◌, length};
 ghost use Rattle.columns.specs.Loans.{now_of};
 ghost use Rattle.rules.specs.Types.{array_element_label, field_says, referent_says};
