@@ -1,5 +1,6 @@
 // The steps of asking a list that read no object: whether there is room, one row, a refusal with its position, the end. `ask_each` asks a list by these.
 #![tactic(auto)]
+
 ghost use Rattle.std.specs.Prelude.{◌≡◌, ◌<◌, length};
 ghost use Rattle.columns.specs.Columns.{kept};
 ghost use Rattle.rules.specs.Types.{field_says, each_field_says};

@@ -1,0 +1,14 @@
+-- `ask_each_rows::settle` meets its contract: both columns are cleared behind what the answer keeps. Assumes nothing.
+use mathlib.Core.Path.{refl, ap, ◌∙◌}
+use Prim.Native.Nat.{ℕ}
+use Rattle.columns.specs.Columns.{cleared}
+use Rattle.ask_each_rows.proofs.settle.Goals as goal
+
+pub returns : goal.returns
+returns c = let a = c.args in
+    let end = c.each_kept-end.ensures in
+    record {
+      answer = refl;
+      targets = c.zero_u32.ensures ∙ ap (λ (k : ℕ). cleared k a.own_targets.now) end;
+      found = c.zero_u8.ensures ∙ ap (λ (k : ℕ). cleared k a.found.now) end;
+    }
