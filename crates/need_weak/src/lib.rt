@@ -1,6 +1,7 @@
 // The need of buffer 2, of the input alone: the weak pairs. They come from slots alone, since elements, statics and loaders are kept; and of the slots
 // only those are looked up that are weak and whose class's kind is not kept.
 #![tactic(auto)]
+
 pub mod copied;
 pub mod most;
 pub mod raw;
