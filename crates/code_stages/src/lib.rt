@@ -1,5 +1,6 @@
 // The stages that code a plain graph's columns: each takes the answer so far, decides whether its buffers have room, and fills them.
 #![tactic(auto)]
+
 pub mod answers;
 pub mod codes;
 pub mod fields;
