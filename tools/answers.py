@@ -54,7 +54,7 @@ def name_of(line):
 
 def same_name(block, line):
     m = name_of(block[0])
-    return m and re.match(re.escape(m[2]) + r"(?=\s)", line) and not name_of(line)
+    return m and re.match(re.escape(m[2]) + r"(?=\s|$)", line) and not name_of(line)
 
 
 def decl(notes, block):
@@ -136,6 +136,7 @@ class Turn:
             text = f.read()
         self.head, self.uses, decls = split_decls(text)
         last = decls[-1]
+        self.unfolding = last.get("unfolding", [])
         body = " ".join(line.strip() for line in last["clauses"] or last["text"])
         m = re.search(r"tie\.spec\b", body)
         if not m:
@@ -193,9 +194,9 @@ class Turn:
         self.helpers = {n: d for n, d in self.decls.items() if n not in used}
         self.kinds = {}
         for n, d in self.helpers.items():
-            m = re.match(r"((?:(?:tie\.[^→()]+|\(\w+ : tie\.[^→()]+\)) *→ *)+)(.*)$", d["sig"])
+            m = re.match(r"((?:(?:tie\.[^→()]+|\(\w+ : tie\.[^→()]+\)(?= \{|)) *(?:→|(?=\{)) *)+)(.*)$", d["sig"])
             if m and "tie." in d["sig"]:
-                count = m[1].count("→")
+                count = m[1].count("tie.")
                 named = re.search(r"\((\w+) : tie", m[1])
                 clause = self.clause(d)
                 if clause is None:
@@ -220,7 +221,7 @@ class Turn:
 
     def clause(self, d):
         text = "\n".join(d["clauses"])
-        m = re.match(rf"{re.escape(d['name'])}((?: [^=]*?)?) =(?=\s)", text)
+        m = re.match(rf"{re.escape(d['name'])}((?:\s[^=]*?)?)\s=(?=\s)", text)
         if not m:
             return None
         rest = text[m.end() :]
@@ -287,6 +288,29 @@ class Turn:
             text = re.sub(rf"(?<![\w.\-'₀-₉]){re.escape(n)}{c}", n, text)
         return text
 
+    def inlined(self, text):
+        """A helper with implicit arguments, which no `let` can have, is written out where it stands."""
+        for n, k in self.kinds.items():
+            if k[0] != "tie" or not k[4].lstrip().startswith("{") or len(k[2]) != k[1] + 1:
+                continue
+            body = self.term(k[3], k[2][0])
+            while True:
+                m = re.search(rf"(?<![\w.\-'₀-₉]){re.escape(n)}\s+(?=[(\w])", text)
+                if not m:
+                    break
+                arg = args_of(text[m.end() :])[0] if text[m.end()] != "(" else None
+                if arg is None:
+                    depth = 0
+                    for j in range(m.end(), len(text)):
+                        depth += {"(": 1, ")": -1}.get(text[j], 0)
+                        if not depth:
+                            break
+                    arg = text[m.end() : j + 1]
+                arg_end = m.end() + len(arg)
+                put = re.sub(rf"(?<![\w.\-'₀-₉]){re.escape(k[2][1])}(?![\w\-'₀-₉])", lambda _: arg, body)
+                text = text[: m.start()] + "(" + put.strip() + ")" + text[arg_end:]
+        return text
+
     def dotted(self, m, aliases):
         if m[1] not in aliases and m[1] != "c":
             return m[1] + "".join("." + (p.replace("-", "_") if p.replace("-", "_") in self.params else p) for p in m[2].split(".")[1:])
@@ -312,7 +336,7 @@ class Turn:
         elif norm(head) in self.steps:
             callee = self.callee.get(norm(head))
             parts[0] = "\x01" + self.steps[norm(head)]  # so that a second pass knows it
-            if parts[1:2] == ["auto"] and parts[2:] and parts[2].isdigit() and callee in self.names["params"]:
+            if parts[1:2] in (["auto"], ["new"]) and parts[2:] and parts[2].isdigit() and callee in self.names["params"]:
                 ones = 0
                 while ones + 2 < len(parts) and parts[ones + 2] == "1":
                     ones += 1
@@ -378,11 +402,10 @@ class Turn:
         n = len(self.labels)
         if n <= 1:
             return ["requires"] + rest
-        k = ones
-        if rest and rest[0] == "0" and k < n:
+        if rest[:1] == ["0"] and ones < n - 1:
             rest = rest[1:]
-        if 1 <= k <= n:
-            return ["requires", self.labels[k - 1]] + rest
+        if ones < n:
+            return ["requires", self.labels[ones]] + rest
         return ["requires"] + parts
 
     def uses_of(self, text):
@@ -435,18 +458,21 @@ class Turn:
                     out.append(([], goal, [], f"{goal} = {it}", True))
                     self.say(f"{goal}: {it[:60]}")
                     continue
-                params, term, unfolding, notes = m[1].split(), m[2], [], []
+                params, term, unfolding, notes = m[1].split(), m[2], self.unfolding, []
             var = params[0] if params else "c"
             if not params:
                 out.append((notes, goal, unfolding, f"{goal} = {term}", True))
                 self.say(f"{goal}: no parameter")
                 continue
-            term = self.term(term, var)
+            term = self.inlined(self.term(term, var))
             lets = self.lets(term).replace("\x01", "")
             term = self.record(term.replace("\x01", ""), self.asked(goal, old))
             if self.unfolded:
                 mine = [x for line in unfolding for x in line.split()[1:]]
                 unfolding = ["unfolding " + " ".join(mine + sorted(self.unfolded - set(mine)))]
+            extra = [q for q in params[1:] if q != "κs"]
+            if extra:
+                term = "λ " + " ".join(extra) + ". " + term.strip()
             if lets:
                 term = "\n" + lets + "    " + term.strip()
             out.append((notes, goal, unfolding, term, False))
