@@ -1,5 +1,6 @@
 // One object's edges: the reader, which is passed on; and all of them at once, into two lent columns.
 #![tactic(auto)]
+
 mod object;
 
 pub use ask_reader::{Edges, Step, new, next, read, step_at};
