@@ -1,70 +1,75 @@
-// What the programs write: words, numbers, and columns of numbers with a space before each. No contract can say what C's `write` does with the bytes.
-// So each function answers how many bytes it handed over, modulo 2^64. One that leaves out a part of its text would answer another number.
+// What the programs write: words, numbers, and columns of numbers with a space before each. No contract can say what the standard output does with the bytes.
+// So each function answers how many bytes it handed over, modulo 2^64. One that leaves out a part of its text would answer another number. A write that fails
+// is handed on as an error, and nothing is said then of how much was written.
 #![tactic(auto)]
-ghost use Rattle.std.specs.Prelude.{◌≡◌, length};
+
+ghost use Rattle.std.specs.Prelude.{◌≡◌, IfOk, length};
 ghost use Rattle.print.specs.Printed.{digit_count, spaced_bytes, line_bytes, column_bytes};
 
-use libc::STDOUT_FILENO;
+use itoa::Buffer;
+use std::io;
 use std::num::wrapping_add_usize;
 
-pub fn word(text: &[u8]) -> usize
-    ensures { result ≡ length text.now }
+pub fn word(rt: &impl Print, text: &[u8]) -> io::Result<usize>
+    ensures { IfOk result (λ bytes. bytes ≡ length text.now) }
 {
-    io::write_all(STDOUT_FILENO, text);
-    text.len()
+    rt.write_all(text)?;
+    Ok(text.len())
 }
 
-// The digits themselves are the contract of `io::decimal`.
-pub fn number(n: u64) -> usize
-    ensures { result ≡ digit_count n }
+// The digits themselves are the contract of `itoa`.
+#[tactic(auto, using(crate::proofs::Printed::count_written))]
+pub fn number(rt: &impl Print, n: u64) -> io::Result<usize>
+    ensures { IfOk result (λ bytes. bytes ≡ digit_count n) }
 {
-    let mut text = [0u8; 20];
-    let k = io::decimal(n, &mut text);
-    word(&text[..k])
+    let mut text = Buffer::new();
+    let digits = text.format(n);
+    word(rt, digits.as_bytes())
 }
 
 // A word and a number, on a line of their own.
-pub fn line(text: &[u8], n: u64) -> usize
-    ensures { result ≡ line_bytes text.now n }
+pub fn line(rt: &impl Print, text: &[u8], n: u64) -> io::Result<usize>
+    ensures { IfOk result (λ bytes. bytes ≡ line_bytes text.now n) }
 {
-    let bytes = wrapping_add_usize(word(text), number(n));
-    wrapping_add_usize(bytes, end())
+    let bytes = wrapping_add_usize(word(rt, text)?, number(rt, n)?);
+    Ok(wrapping_add_usize(bytes, end(rt)?))
 }
 
-fn next(n: u64) -> usize
-    ensures { result ≡ spaced_bytes n }
+fn next(rt: &impl Print, n: u64) -> io::Result<usize>
+    ensures { IfOk result (λ bytes. bytes ≡ spaced_bytes n) }
 {
-    wrapping_add_usize(word(b" "), number(n))
+    let bytes = word(rt, b" ")?;
+    Ok(wrapping_add_usize(bytes, number(rt, n)?))
 }
 
-fn end() -> usize
-    ensures { result ≡ 1 }
+fn end(rt: &impl Print) -> io::Result<usize>
+    ensures { IfOk result (λ bytes. bytes ≡ 1) }
 {
-    word(b"\n")
+    word(rt, b"\n")
 }
 
-pub fn column_u64(text: &[u8], xs: &[u64]) -> usize
-    ensures { result ≡ column_bytes text.now xs.now }
+pub fn column_u64(rt: &impl Print, text: &[u8], xs: &[u64]) -> io::Result<usize>
+    ensures { IfOk result (λ bytes. bytes ≡ column_bytes text.now xs.now) }
 {
-    let mut bytes = word(text);
+    let mut bytes = word(rt, text)?;
     let mut i = 0;
     while i < xs.len() {
-        bytes = wrapping_add_usize(bytes, next(xs[i]));
+        bytes = wrapping_add_usize(bytes, next(rt, xs[i])?);
         i += 1;
     }
-    wrapping_add_usize(bytes, end())
+    Ok(wrapping_add_usize(bytes, end(rt)?))
 }
 
-pub fn column_u32(text: &[u8], xs: &[u32]) -> usize
-    ensures { result ≡ column_bytes text.now xs.now }
+pub fn column_u32(rt: &impl Print, text: &[u8], xs: &[u32]) -> io::Result<usize>
+    ensures { IfOk result (λ bytes. bytes ≡ column_bytes text.now xs.now) }
 {
-    let mut bytes = word(text);
+    let mut bytes = word(rt, text)?;
     let mut i = 0;
     while i < xs.len() {
-        bytes = wrapping_add_usize(bytes, next(columns::wide(xs[i])));
+        bytes = wrapping_add_usize(bytes, next(rt, columns::wide(xs[i]))?);
         i += 1;
     }
-    wrapping_add_usize(bytes, end())
+    Ok(wrapping_add_usize(bytes, end(rt)?))
 }
 
 fn wide(x: u16) -> u64
@@ -73,14 +78,14 @@ fn wide(x: u16) -> u64
     x as u64
 }
 
-pub fn column_u16(text: &[u8], xs: &[u16]) -> usize
-    ensures { result ≡ column_bytes text.now xs.now }
+pub fn column_u16(rt: &impl Print, text: &[u8], xs: &[u16]) -> io::Result<usize>
+    ensures { IfOk result (λ bytes. bytes ≡ column_bytes text.now xs.now) }
 {
-    let mut bytes = word(text);
+    let mut bytes = word(rt, text)?;
     let mut i = 0;
     while i < xs.len() {
-        bytes = wrapping_add_usize(bytes, next(wide(xs[i])));
+        bytes = wrapping_add_usize(bytes, next(rt, wide(xs[i]))?);
         i += 1;
     }
-    wrapping_add_usize(bytes, end())
+    Ok(wrapping_add_usize(bytes, end(rt)?))
 }
