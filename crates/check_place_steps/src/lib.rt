@@ -1,6 +1,7 @@
 // The steps of counting places that have little to read: one slot or element, all parts, and whether these stand one behind the other. `check_places` counts by
 // them.
 #![tactic(auto)]
+
 ghost use Rattle.std.specs.Prelude.{◌≡◌, true, not, ◌≤◌, eqb, length};
 ghost use Rattle.columns.specs.Lists.{one, total};
 ghost use Rattle.check_ids.specs.Copying.{held_codes};
