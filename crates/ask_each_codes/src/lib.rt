@@ -1,5 +1,6 @@
 // The code that alone says a label, and the first of an object's edges that has it. `ask_each` asks a list by these.
 #![tactic(auto)]
+
 ghost use Rattle.std.specs.Prelude.{◌+◌, ◌<◌, ◌≤◌, length};
 ghost use Rattle.rules.specs.Types.{array_element_label};
 ghost use Rattle.ask_field.specs.Sought.{decoded, sought_in};
