@@ -1,6 +1,7 @@
 // Answers of the questions as numbers, for a host: how many numbers document 01 gives an answer, those numbers, then zeros. `answer_builds` has the others,
 // `answer_replies` answers in one number.
 #![tactic(auto)]
+
 ghost use Rattle.std.specs.Prelude.{◌≡◌};
 ghost use Rattle.rules.specs.Types.{span_says, edge_count_says, coarse_says, exact_says, label_of_says, field_says, referent_says, weak_says, object_edges_says};
 ghost use Rattle.rules.specs.Types.{each_field_says, inverted_says, entry_says};

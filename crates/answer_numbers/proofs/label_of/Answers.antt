@@ -1,0 +1,28 @@
+-- `answer_numbers::label_of` meets its contract: case by case. Assumes nothing.
+use mathlib.Core.Path.{sym, ap}
+use mathlib.Core.List.{List}
+use Prim.Native.Nat.{ℕ}
+use Rattle.rules.specs.declared.LabelOf.{LabelOf}
+use Rattle.rules.specs.Types.{label_of_says}
+use Rattle.columns.specs.Columns.{padded, over}
+use Rattle.answer_numbers.specs.Told.{told}
+use Rattle.answer_numbers.proofs.label_of.Goals as goal
+
+abbrev numbers : LabelOf → List ℕ
+numbers a = told 4 (label_of_says a)
+
+pub returns-in-Is : goal.returns-in-Is
+unfolding told padded over
+returns-in-Is c = sym (ap numbers c.in-Is.is)
+
+pub returns-in-Nothing : goal.returns-in-Nothing
+unfolding told padded over
+returns-in-Nothing c = sym (ap numbers c.in-Nothing.is)
+
+pub returns-in-Index : goal.returns-in-Index
+unfolding told padded over
+returns-in-Index c = sym (ap numbers c.in-Index.is)
+
+pub returns-in-Columns : goal.returns-in-Columns
+unfolding told padded over
+returns-in-Columns c = sym (ap numbers c.in-Columns.is)
