@@ -1,5 +1,6 @@
 // The number of places of an input, by both routes.
 #![tactic(auto)]
+
 ghost use Rattle.std.specs.Prelude.{◌≡◌};
 ghost use Rattle.rules.specs.Needs.{Fits};
 ghost use Rattle.check_ids.specs.Copying.{held_codes};
