@@ -335,6 +335,8 @@ class Turn:
             parts[1:] = [p.replace("-", "_") for p in parts[1:]]
         elif norm(head) in self.steps:
             callee = self.callee.get(norm(head))
+            if parts[1:2] == ["kept"] and parts[2:] and parts[2].isdigit():
+                parts[1] = "auto"
             parts[0] = "\x01" + self.steps[norm(head)]  # so that a second pass knows it
             if parts[1:2] in (["auto"], ["new"]) and parts[2:] and parts[2].isdigit() and callee in self.names["params"]:
                 ones = 0
@@ -470,6 +472,8 @@ class Turn:
             if self.unfolded:
                 mine = [x for line in unfolding for x in line.split()[1:]]
                 unfolding = ["unfolding " + " ".join(mine + sorted(self.unfolded - set(mine)))]
+            for p in re.findall(rf"let ({W}) = c\.requires in", term) if len(self.labels) > 1 else []:
+                term = re.sub(rf"(?<![\w.\-'₀-₉]){re.escape(p)}\.([01][.01]*\d?(?:\.\d)*)(?=[^\w]|$)", lambda m: p + "." + ".".join(self.clause_at("requires", self.labels, m[1].strip(".").split("."))[1:]), term)
             extra = [q for q in params[1:] if q != "κs"]
             if extra:
                 term = "λ " + " ".join(extra) + ". " + term.strip()
