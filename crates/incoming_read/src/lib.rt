@@ -1,5 +1,6 @@
 // Which objects of finished columns cannot be read back: the lowest, exactly; and quick tests that leave no doubt on most columns.
 #![tactic(auto)]
+
 mod checks;
 mod object;
 pub mod pass;
