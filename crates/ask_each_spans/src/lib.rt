@@ -1,5 +1,6 @@
 // The spans of a list of objects, by the short columns. Each is told by a few tests, so that many reads are on their way at once.
 #![tactic(auto)]
+
 ghost use Rattle.std.specs.Prelude.{◌<◌, ◌≤◌, length};
 ghost use Rattle.ask_short.specs.Lean.{short_of};
 ghost use Rattle.ask_each_spans.specs.Told.{Based, Few, Told, Telling};
