@@ -320,6 +320,8 @@ class Turn:
         if parts[0] == "pre":
             return "c." + ".".join(self.pre(parts[1:]))
         head = parts[0] = {"good": "well_formed", "well-formed": "well_formed"}.get(parts[0], parts[0])
+        if head == "fits" and "fits" not in self.steps and len(parts) == 2:
+            return f"c.ranges.{parts[1].replace('-', '_')}.fits"
         if norm(head) not in self.steps and head.endswith("_lem") and norm(head[:-4]) in self.steps:
             parts[0] = head = head[:-4]
         numbered = re.fullmatch(r"(.*?)-?\d+", head)
@@ -349,7 +351,7 @@ class Turn:
                 labels = labels_of(callee.split("::")[0], callee.replace("::", ".").partition(".")[2], "ensures")
                 if len(labels) > 1:
                     parts[1:] = self.clause_at("ensures", labels, parts[2:])
-            parts[1:] = [p if p in ("true", "false", "ensures", "invariant", "result") else p.replace("-", "_") for p in parts[1:]]
+            parts[1:] = ["false" if p == "left" else p if p in ("true", "false", "ensures", "invariant", "result") else p.replace("-", "_") for p in parts[1:]]
             if parts[1:3] == ["given", "1"]:
                 parts[1:3] = ["is"]
         return "c." + ".".join(parts)
@@ -474,6 +476,8 @@ class Turn:
                 unfolding = ["unfolding " + " ".join(mine + sorted(self.unfolded - set(mine)))]
             for p in re.findall(rf"let ({W}) = c\.requires in", term) if len(self.labels) > 1 else []:
                 term = re.sub(rf"(?<![\w.\-'₀-₉]){re.escape(p)}\.([01][.01]*\d?(?:\.\d)*)(?=[^\w]|$)", lambda m: p + "." + ".".join(self.clause_at("requires", self.labels, m[1].strip(".").split("."))[1:]), term)
+            # a test of `!x` says what x is
+            term = re.sub(r"\bnot-(?:true|false) _ (c\.if-not-[\w-]+\.(?:true|false))", r"\1", term)
             extra = [q for q in params[1:] if q != "κs"]
             if extra:
                 term = "λ " + " ".join(extra) + ". " + term.strip()
