@@ -1,5 +1,6 @@
 // Coding a plain graph's columns: offsets into blocks, labels into codes, with ROOM for buffers 4 to 9 decided in order.
 #![tactic(auto)]
+
 ghost use Rattle.columns.specs.Loans.{now_of, old_of, new_of};
 ghost use Rattle.rules.specs.Types.{built_says};
 ghost use Rattle.rules.specs.Tables.{coding_room, coding_left};
