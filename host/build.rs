@@ -15,8 +15,15 @@ fn main() {
             fs::copy(made, &archive).expect("YOKEFATHOM_ARCHIVE is a file");
         }
         None => {
-            for part in ["crates", "crates.txt", "tools/staticlib"] {
+            for part in ["crates.txt", "tools/staticlib"] {
                 println!("cargo:rerun-if-changed={}", root.join(part).display());
+            }
+            // What is proved is kept in `out/` beside these: a folder named here is one that `rt` does not write.
+            for crate_ in fs::read_dir(root.join("crates")).expect("the crates") {
+                let folder = crate_.expect("a crate").path();
+                for part in ["src", "specs", "proofs"].map(|part| folder.join(part)).into_iter().filter(|part| part.is_dir()) {
+                    println!("cargo:rerun-if-changed={}", part.display());
+                }
             }
             let made = Command::new("sh").arg(root.join("tools/staticlib")).arg("yokefathom").arg(&archive).status();
             let made = made.expect("sh runs");
