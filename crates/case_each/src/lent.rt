@@ -1,8 +1,10 @@
 // The columns that the answers are laid in: arrays full of nines, of which rooms are lent.
 use crate::list::MOST;
 use crate::show;
+use std::io;
 
 fn within(
+    rt: &impl Print,
     bases: &[u64],
     short: &[u16],
     long_at: &[u32],
@@ -18,12 +20,12 @@ fn within(
     found_room: usize,
     own_targets: &mut [u32],
     found: &mut [u8],
-) {
+) -> io::Result<()> {
     if own_targets.len() < targets_room {
-        return;
+        return Ok(());
     }
     if found.len() < found_room {
-        return;
+        return Ok(());
     }
     let says = ask_each::field(
         bases,
@@ -40,11 +42,17 @@ fn within(
         &mut own_targets[0..targets_room],
         &mut found[0..found_room],
     );
-    show::said(says, &own_targets[0..targets_room], &found[0..found_room]);
+    show::said(
+        rt,
+        says,
+        &own_targets[0..targets_room],
+        &found[0..found_room],
+    )
 }
 
 // A list asked in room for so many targets and marks.
 pub(crate) fn run(
+    rt: &impl Print,
     bases: &[u64],
     short: &[u16],
     long_at: &[u32],
@@ -58,10 +66,11 @@ pub(crate) fn run(
     label: u32,
     targets_room: usize,
     found_room: usize,
-) {
+) -> io::Result<()> {
     let mut own_targets: [u32; MOST] = [9; MOST];
     let mut found: [u8; MOST] = [9; MOST];
     within(
+        rt,
         bases,
         short,
         long_at,
@@ -77,10 +86,11 @@ pub(crate) fn run(
         found_room,
         &mut own_targets,
         &mut found,
-    );
+    )
 }
 
 fn whole(
+    rt: &impl Print,
     bases: &[u64],
     short: &[u16],
     long_at: &[u32],
@@ -94,7 +104,7 @@ fn whole(
     label: u32,
     own_targets: &mut [u32],
     found: &mut [u8],
-) {
+) -> io::Result<()> {
     let says = ask_each::field(
         bases,
         short,
@@ -110,12 +120,13 @@ fn whole(
         own_targets,
         found,
     );
-    show::said(says, own_targets, found);
-    show::left(own_targets, found);
+    show::said(rt, says, own_targets, found)?;
+    show::left(rt, own_targets, found)
 }
 
 // A list asked in all the room that there is, and whether that is zero after it.
 pub(crate) fn refusal(
+    rt: &impl Print,
     bases: &[u64],
     short: &[u16],
     long_at: &[u32],
@@ -127,10 +138,11 @@ pub(crate) fn refusal(
     escape_label: &[u32],
     objects: &[u32],
     label: u32,
-) {
+) -> io::Result<()> {
     let mut own_targets: [u32; MOST] = [9; MOST];
     let mut found: [u8; MOST] = [9; MOST];
     whole(
+        rt,
         bases,
         short,
         long_at,
@@ -144,5 +156,5 @@ pub(crate) fn refusal(
         label,
         &mut own_targets,
         &mut found,
-    );
+    )
 }

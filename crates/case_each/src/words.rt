@@ -1,32 +1,35 @@
 // How a question's label and its refusal are written.
 use rules::Label;
+use std::io;
 
 // The loader and the elements are named, any other label is its number.
-pub fn label(l: u32) {
+pub fn label(rt: &impl Print, l: u32) -> io::Result<()> {
     if l == Label::LOADER {
-        print::word(b"loader");
-        return;
+        print::word(rt, b"loader")?;
+        return Ok(());
     }
     if l < Label::ARRAY_ELEMENT {
-        print::number(columns::wide(l));
-        return;
+        print::number(rt, columns::wide(l))?;
+        return Ok(());
     }
-    print::word(b"#");
-    print::number(columns::wide(l - Label::ARRAY_ELEMENT));
+    print::word(rt, b"#")?;
+    print::number(rt, columns::wide(l - Label::ARRAY_ELEMENT))?;
+    Ok(())
 }
 
 // A question's refusal, by document 01's number: ROOM, INDEX or COLUMNS.
-pub fn fault(number: u64, place: usize) {
+pub fn fault(rt: &impl Print, number: u64, place: usize) -> io::Result<()> {
     match number {
         9 => {
-            print::word(b"room ");
+            print::word(rt, b"room ")?;
         }
         11 => {
-            print::word(b"index ");
+            print::word(rt, b"index ")?;
         }
         _ => {
-            print::word(b"columns ");
+            print::word(rt, b"columns ")?;
         }
     }
-    print::number(place as u64);
+    print::number(rt, place as u64)?;
+    Ok(())
 }

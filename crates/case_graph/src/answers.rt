@@ -7,6 +7,7 @@ use case_text::arrays;
 use case_text::column::{used_u16, used_u32, used_u64};
 use case_text::lists::of_u32;
 use rules::{Counts, Field, LabelOf, Referent};
+use std::io;
 
 // So many offsets there are, in so many blocks.
 fn offsets_of(objects: usize) -> usize {
@@ -42,75 +43,82 @@ fn pair_at(pairs: &[u32], i: usize) -> Pair {
 }
 
 // A question's name and its object,
-fn question(name: &[u8], object: u32) {
-    print::word(name);
-    print::number(columns::wide(object));
-    print::word(b" ");
+fn question(rt: &impl Print, name: &[u8], object: u32) -> io::Result<()> {
+    print::word(rt, name)?;
+    print::number(rt, columns::wide(object))?;
+    print::word(rt, b" ")?;
+    Ok(())
 }
 
 // and the label.
-fn of_label(l: u32) {
-    words::label(l);
-    print::word(b": ");
+fn of_label(rt: &impl Print, l: u32) -> io::Result<()> {
+    words::label(rt, l)?;
+    print::word(rt, b": ")?;
+    Ok(())
 }
 
-fn tell_field(p: Pair) {
-    question(b"  field ", p.object);
-    of_label(p.other);
+fn tell_field(rt: &impl Print, p: Pair) -> io::Result<()> {
+    question(rt, b"  field ", p.object)?;
+    of_label(rt, p.other)
 }
 
-fn tell_referent(p: Pair) {
-    question(b"  referent ", p.object);
-    of_label(p.other);
+fn tell_referent(rt: &impl Print, p: Pair) -> io::Result<()> {
+    question(rt, b"  referent ", p.object)?;
+    of_label(rt, p.other)
 }
 
-fn tell_label_of(p: Pair) {
-    question(b"  label_of ", p.object);
-    print::number(columns::wide(p.other));
-    print::word(b": ");
+fn tell_label_of(rt: &impl Print, p: Pair) -> io::Result<()> {
+    question(rt, b"  label_of ", p.object)?;
+    print::number(rt, columns::wide(p.other))?;
+    print::word(rt, b": ")?;
+    Ok(())
 }
 
-fn target(t: u32) {
-    print::line(b"", columns::wide(t));
+fn target(rt: &impl Print, t: u32) -> io::Result<()> {
+    print::line(rt, b"", columns::wide(t))?;
+    Ok(())
 }
 
-fn label(l: u32) {
-    words::label(l);
-    print::word(b"\n");
+fn label(rt: &impl Print, l: u32) -> io::Result<()> {
+    words::label(rt, l)?;
+    print::word(rt, b"\n")?;
+    Ok(())
 }
 
-fn nothing() {
-    print::word(b"nothing\n");
+fn nothing(rt: &impl Print) -> io::Result<()> {
+    print::word(rt, b"nothing\n")?;
+    Ok(())
 }
 
-fn show_field(f: Field) {
+fn show_field(rt: &impl Print, f: Field) -> io::Result<()> {
     match f {
-        Field::Target(t) => target(t),
-        Field::Nothing => nothing(),
-        Field::Index(i) => edges::fault_line(11, i),
-        Field::Columns(o) => edges::fault_line(12, o),
+        Field::Target(t) => target(rt, t),
+        Field::Nothing => nothing(rt),
+        Field::Index(i) => edges::fault_line(rt, 11, i),
+        Field::Columns(o) => edges::fault_line(rt, 12, o),
     }
 }
 
-fn show_referent(r: Referent) {
+fn show_referent(rt: &impl Print, r: Referent) -> io::Result<()> {
     match r {
-        Referent::Target(t) => target(t),
-        Referent::Nothing => nothing(),
-        Referent::Index(i) => edges::fault_line(11, i),
-        Referent::Columns(o) => edges::fault_line(12, o),
+        Referent::Target(t) => target(rt, t),
+        Referent::Nothing => nothing(rt),
+        Referent::Index(i) => edges::fault_line(rt, 11, i),
+        Referent::Columns(o) => edges::fault_line(rt, 12, o),
     }
 }
 
-fn show_label_of(a: LabelOf) {
+fn show_label_of(rt: &impl Print, a: LabelOf) -> io::Result<()> {
     match a {
-        LabelOf::Is(l) => label(l.0),
-        LabelOf::Nothing => nothing(),
-        LabelOf::Index(i) => edges::fault_line(11, i),
-        LabelOf::Columns(o) => edges::fault_line(12, o),
+        LabelOf::Is(l) => label(rt, l.0),
+        LabelOf::Nothing => nothing(rt),
+        LabelOf::Index(i) => edges::fault_line(rt, 11, i),
+        LabelOf::Columns(o) => edges::fault_line(rt, 12, o),
     }
 }
 
 fn objects(
+    rt: &impl Print,
     targets: &[u32],
     weak_from: &[u32],
     weak_to: &[u32],
@@ -123,12 +131,13 @@ fn objects(
     escape_label: &[u32],
     codes: &[u16],
     count: usize,
-) {
+) -> io::Result<()> {
     let mut own_targets = arrays::edges_u32();
     let mut own_labels = arrays::edges_u32();
     let mut o = 0;
     while o < count {
         edges::object(
+            rt,
             targets,
             weak_from,
             weak_to,
@@ -143,12 +152,14 @@ fn objects(
             o,
             &mut own_targets,
             &mut own_labels,
-        );
+        )?;
         o += 1;
     }
+    Ok(())
 }
 
 fn field_answers(
+    rt: &impl Print,
     pairs: &[u32],
     targets: &[u32],
     bases: &[u64],
@@ -159,30 +170,35 @@ fn field_answers(
     escape_at: &[u64],
     escape_label: &[u32],
     codes: &[u16],
-) {
+) -> io::Result<()> {
     let count = pairs.len() / 2;
     let mut i = 0;
     while i < count {
         let p = pair_at(pairs, i);
-        tell_field(p);
-        show_field(ask_field::field(
-            bases,
-            short,
-            long_at,
-            long_value,
-            codes,
-            targets,
-            fields,
-            escape_at,
-            escape_label,
-            columns::index(p.object),
-            p.other,
-        ));
+        tell_field(rt, p)?;
+        show_field(
+            rt,
+            ask_field::field(
+                bases,
+                short,
+                long_at,
+                long_value,
+                codes,
+                targets,
+                fields,
+                escape_at,
+                escape_label,
+                columns::index(p.object),
+                p.other,
+            ),
+        )?;
         i += 1;
     }
+    Ok(())
 }
 
 fn referent_answers(
+    rt: &impl Print,
     pairs: &[u32],
     targets: &[u32],
     weak_from: &[u32],
@@ -195,32 +211,37 @@ fn referent_answers(
     escape_at: &[u64],
     escape_label: &[u32],
     codes: &[u16],
-) {
+) -> io::Result<()> {
     let count = pairs.len() / 2;
     let mut i = 0;
     while i < count {
         let p = pair_at(pairs, i);
-        tell_referent(p);
-        show_referent(ask_field::referent(
-            bases,
-            short,
-            long_at,
-            long_value,
-            codes,
-            targets,
-            fields,
-            escape_at,
-            escape_label,
-            weak_from,
-            weak_to,
-            columns::index(p.object),
-            p.other,
-        ));
+        tell_referent(rt, p)?;
+        show_referent(
+            rt,
+            ask_field::referent(
+                bases,
+                short,
+                long_at,
+                long_value,
+                codes,
+                targets,
+                fields,
+                escape_at,
+                escape_label,
+                weak_from,
+                weak_to,
+                columns::index(p.object),
+                p.other,
+            ),
+        )?;
         i += 1;
     }
+    Ok(())
 }
 
 fn label_answers(
+    rt: &impl Print,
     pairs: &[u32],
     targets: &[u32],
     bases: &[u64],
@@ -231,31 +252,36 @@ fn label_answers(
     escape_at: &[u64],
     escape_label: &[u32],
     codes: &[u16],
-) {
+) -> io::Result<()> {
     let count = pairs.len() / 2;
     let mut i = 0;
     while i < count {
         let p = pair_at(pairs, i);
-        tell_label_of(p);
-        show_label_of(ask_label::label_of(
-            bases,
-            short,
-            long_at,
-            long_value,
-            codes,
-            targets,
-            fields,
-            escape_at,
-            escape_label,
-            columns::index(p.object),
-            p.other,
-        ));
+        tell_label_of(rt, p)?;
+        show_label_of(
+            rt,
+            ask_label::label_of(
+                bases,
+                short,
+                long_at,
+                long_value,
+                codes,
+                targets,
+                fields,
+                escape_at,
+                escape_label,
+                columns::index(p.object),
+                p.other,
+            ),
+        )?;
         i += 1;
     }
+    Ok(())
 }
 
 // The object lines, the questions, and those asked of a list, over used parts.
 fn asked<'a>(
+    rt: &impl Print,
     halves: &'a [u32],
     cuts: &'a [usize],
     count: usize,
@@ -270,8 +296,9 @@ fn asked<'a>(
     escape_at: &[u64],
     escape_label: &[u32],
     codes: &[u16],
-) {
+) -> io::Result<()> {
     objects(
+        rt,
         targets,
         weak_from,
         weak_to,
@@ -284,8 +311,9 @@ fn asked<'a>(
         escape_label,
         codes,
         count,
-    );
+    )?;
     field_answers(
+        rt,
         of_u32(halves, cuts, lists::FIELD),
         targets,
         bases,
@@ -296,8 +324,9 @@ fn asked<'a>(
         escape_at,
         escape_label,
         codes,
-    );
+    )?;
     referent_answers(
+        rt,
         of_u32(halves, cuts, lists::REFERENT),
         targets,
         weak_from,
@@ -310,8 +339,9 @@ fn asked<'a>(
         escape_at,
         escape_label,
         codes,
-    );
+    )?;
     label_answers(
+        rt,
         of_u32(halves, cuts, lists::LABEL_OF),
         targets,
         bases,
@@ -322,8 +352,9 @@ fn asked<'a>(
         escape_at,
         escape_label,
         codes,
-    );
+    )?;
     case_each::all(
+        rt,
         bases,
         short,
         long_at,
@@ -335,10 +366,11 @@ fn asked<'a>(
         escape_label,
         of_u32(halves, cuts, lists::FIELD),
         count,
-    );
+    )
 }
 
 pub(crate) fn all<'a>(
+    rt: &impl Print,
     c: Counts,
     halves: &'a [u32],
     cuts: &'a [usize],
@@ -354,8 +386,9 @@ pub(crate) fn all<'a>(
     escape_at: &[u64],
     escape_label: &[u32],
     codes: &[u16],
-) {
+) -> io::Result<()> {
     asked(
+        rt,
         halves,
         cuts,
         n.objects,
@@ -370,5 +403,5 @@ pub(crate) fn all<'a>(
         used_u64(escape_at, c.escapes),
         used_u32(escape_label, c.escapes),
         used_u16(codes, c.edges),
-    );
+    )
 }

@@ -3,6 +3,7 @@ use case_each::words::{fault, label};
 use case_text::zero::zero_u32;
 use case_text::{column, form};
 use rules::{ObjectEdges, Span, WeakReferents};
+use std::io;
 
 // Edges to one target whose labels follow each other; before the first edge there are none.
 #[derive(Clone, Copy)]
@@ -13,23 +14,25 @@ struct Run {
     last: u32,
 }
 
-pub(crate) fn fault_line(number: u64, place: usize) {
-    fault(number, place);
-    print::word(b"\n");
+pub(crate) fn fault_line(rt: &impl Print, number: u64, place: usize) -> io::Result<()> {
+    fault(rt, number, place)?;
+    print::word(rt, b"\n")?;
+    Ok(())
 }
 
-fn show_run(r: Run) {
+fn show_run(rt: &impl Print, r: Run) -> io::Result<()> {
     if !r.some {
-        return;
+        return Ok(());
     }
-    print::word(b" ");
-    print::number(columns::wide(r.target));
-    print::word(b":");
-    label(r.first);
+    print::word(rt, b" ")?;
+    print::number(rt, columns::wide(r.target))?;
+    print::word(rt, b":")?;
+    label(rt, r.first)?;
     if r.first < r.last {
-        print::word(b"..");
-        label(r.last);
+        print::word(rt, b"..")?;
+        label(rt, r.last)?;
     }
+    Ok(())
 }
 
 fn goes_on(r: Run, target: u32, l: u32) -> bool {
@@ -46,25 +49,25 @@ fn goes_on(r: Run, target: u32, l: u32) -> bool {
 }
 
 // A run with one edge more; a run that does not go on is written, and the edge begins another.
-fn with_edge(r: Run, target: u32, l: u32) -> Run {
+fn with_edge(rt: &impl Print, r: Run, target: u32, l: u32) -> io::Result<Run> {
     if goes_on(r, target, l) {
-        return Run {
+        return Ok(Run {
             some: true,
             target,
             first: r.first,
             last: l,
-        };
+        });
     }
-    show_run(r);
-    Run {
+    show_run(rt, r)?;
+    Ok(Run {
         some: true,
         target,
         first: l,
         last: l,
-    }
+    })
 }
 
-fn runs(own_targets: &[u32], own_labels: &[u32]) {
+fn runs(rt: &impl Print, own_targets: &[u32], own_labels: &[u32]) -> io::Result<()> {
     let mut run = Run {
         some: false,
         target: 0,
@@ -74,34 +77,47 @@ fn runs(own_targets: &[u32], own_labels: &[u32]) {
     let mut k = 0;
     while k < own_targets.len() {
         if own_labels.len() <= k {
-            return;
+            return Ok(());
         }
-        run = with_edge(run, own_targets[k], own_labels[k]);
+        run = with_edge(rt, run, own_targets[k], own_labels[k])?;
         k += 1;
     }
-    show_run(run);
+    show_run(rt, run)
 }
 
 // A refusal, and a mark where it did not leave both columns zero.
-fn no_edges(number: u64, place: usize, own_targets: &[u32], own_labels: &[u32]) {
-    print::word(b" ");
-    fault(number, place);
+fn no_edges(
+    rt: &impl Print,
+    number: u64,
+    place: usize,
+    own_targets: &[u32],
+    own_labels: &[u32],
+) -> io::Result<()> {
+    print::word(rt, b" ")?;
+    fault(rt, number, place)?;
     if !zero_u32(zero_u32(true, own_targets), own_labels) {
-        print::word(b"!");
+        print::word(rt, b"!")?;
     }
+    Ok(())
 }
 
-fn show_edges(found: ObjectEdges, own_targets: &[u32], own_labels: &[u32]) {
+fn show_edges(
+    rt: &impl Print,
+    found: ObjectEdges,
+    own_targets: &[u32],
+    own_labels: &[u32],
+) -> io::Result<()> {
     match found {
-        ObjectEdges::Edges(_) => runs(own_targets, own_labels),
-        ObjectEdges::Room(b) => no_edges(9, b, own_targets, own_labels),
-        ObjectEdges::Index(i) => no_edges(11, i, own_targets, own_labels),
-        ObjectEdges::Columns(o) => no_edges(12, o, own_targets, own_labels),
+        ObjectEdges::Edges(_) => runs(rt, own_targets, own_labels),
+        ObjectEdges::Room(b) => no_edges(rt, 9, b, own_targets, own_labels),
+        ObjectEdges::Index(i) => no_edges(rt, 11, i, own_targets, own_labels),
+        ObjectEdges::Columns(o) => no_edges(rt, 12, o, own_targets, own_labels),
     }
 }
 
 // The edges of an object, in room for so many targets and labels.
 fn edges(
+    rt: &impl Print,
     targets: &[u32],
     bases: &[u64],
     short: &[u16],
@@ -116,12 +132,12 @@ fn edges(
     labels_room: usize,
     own_targets: &mut [u32],
     own_labels: &mut [u32],
-) {
+) -> io::Result<()> {
     if own_targets.len() < targets_room {
-        return;
+        return Ok(());
     }
     if own_labels.len() < labels_room {
-        return;
+        return Ok(());
     }
     let found = ask_edges::object_edges(
         bases,
@@ -138,10 +154,11 @@ fn edges(
         &mut own_labels[0..labels_room],
     );
     show_edges(
+        rt,
         found,
         &own_targets[0..targets_room],
         &own_labels[0..labels_room],
-    );
+    )
 }
 
 // How many edges a span has.
@@ -158,16 +175,16 @@ fn count_of(at: Span) -> usize {
     }
 }
 
-fn ends(start: usize, end: usize) {
-    form::fill(b"# #", &[start as u64, end as u64]);
+fn ends(rt: &impl Print, start: usize, end: usize) -> io::Result<()> {
+    form::fill(rt, b"# #", &[start as u64, end as u64])
 }
 
-fn show_span(at: Span) {
-    print::word(b" span ");
+fn show_span(rt: &impl Print, at: Span) -> io::Result<()> {
+    print::word(rt, b" span ")?;
     match at {
-        Span::Edges { start, end } => ends(start, end),
-        Span::Index(i) => fault(11, i),
-        Span::Columns(o) => fault(12, o),
+        Span::Edges { start, end } => ends(rt, start, end),
+        Span::Index(i) => fault(rt, 11, i),
+        Span::Columns(o) => fault(rt, 12, o),
     }
 }
 
@@ -181,25 +198,26 @@ fn part<'a>(xs: &'a [u32], start: usize, end: usize) -> &'a [u32] {
     &xs[start..end]
 }
 
-fn weak_targets(weak_to: &[u32]) {
-    column::of_u32(b" weak", weak_to);
+fn weak_targets(rt: &impl Print, weak_to: &[u32]) -> io::Result<()> {
+    column::of_u32(rt, b" weak", weak_to)
 }
 
-fn no_weak(number: u64, place: usize) {
-    print::word(b" weak ");
-    fault_line(number, place);
+fn no_weak(rt: &impl Print, number: u64, place: usize) -> io::Result<()> {
+    print::word(rt, b" weak ")?;
+    fault_line(rt, number, place)
 }
 
-fn show_weak(weak_to: &[u32], rows: WeakReferents) {
+fn show_weak(rt: &impl Print, weak_to: &[u32], rows: WeakReferents) -> io::Result<()> {
     match rows {
-        WeakReferents::Rows { start, end } => weak_targets(part(weak_to, start, end)),
-        WeakReferents::Index(i) => no_weak(11, i),
-        WeakReferents::Columns(o) => no_weak(12, o),
+        WeakReferents::Rows { start, end } => weak_targets(rt, part(weak_to, start, end)),
+        WeakReferents::Index(i) => no_weak(rt, 11, i),
+        WeakReferents::Columns(o) => no_weak(rt, 12, o),
     }
 }
 
 // Of an object with edges, each of the two columns one number short.
 fn one_short(
+    rt: &impl Print,
     targets: &[u32],
     bases: &[u64],
     short: &[u16],
@@ -213,12 +231,13 @@ fn one_short(
     count: usize,
     own_targets: &mut [u32],
     own_labels: &mut [u32],
-) {
+) -> io::Result<()> {
     if count == 0 {
-        return;
+        return Ok(());
     }
-    print::word(b" short");
+    print::word(rt, b" short")?;
     edges(
+        rt,
         targets,
         bases,
         short,
@@ -233,8 +252,9 @@ fn one_short(
         count,
         own_targets,
         own_labels,
-    );
+    )?;
     edges(
+        rt,
         targets,
         bases,
         short,
@@ -249,10 +269,11 @@ fn one_short(
         count - 1,
         own_targets,
         own_labels,
-    );
+    )
 }
 
 pub(crate) fn object(
+    rt: &impl Print,
     targets: &[u32],
     weak_from: &[u32],
     weak_to: &[u32],
@@ -267,14 +288,15 @@ pub(crate) fn object(
     o: usize,
     own_targets: &mut [u32],
     own_labels: &mut [u32],
-) {
-    print::word(b"  object ");
-    print::number(o as u64);
+) -> io::Result<()> {
+    print::word(rt, b"  object ")?;
+    print::number(rt, o as u64)?;
     let at = ask_span::span(bases, short, long_at, long_value, codes, targets, o);
-    show_span(at);
-    print::word(b" edges");
+    show_span(rt, at)?;
+    print::word(rt, b" edges")?;
     let count = count_of(at);
     edges(
+        rt,
         targets,
         bases,
         short,
@@ -289,8 +311,9 @@ pub(crate) fn object(
         count,
         own_targets,
         own_labels,
-    );
+    )?;
     one_short(
+        rt,
         targets,
         bases,
         short,
@@ -304,9 +327,10 @@ pub(crate) fn object(
         count,
         own_targets,
         own_labels,
-    );
+    )?;
     show_weak(
+        rt,
         weak_to,
         ask_span::weak_referents(short, weak_from, weak_to, o),
-    );
+    )
 }

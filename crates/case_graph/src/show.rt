@@ -4,12 +4,14 @@ use crate::case::Numbers;
 use case_text::zero::{zero_u16, zero_u32, zero_u64};
 use case_text::{column, form};
 use rules::Counts;
+use std::io;
 
 // Document 01's numbers.
-fn refused(number: u64, place: u64) {
-    print::word(b"  refused: ");
-    print::number(number);
-    print::line(b" at ", place);
+fn refused(rt: &impl Print, number: u64, place: u64) -> io::Result<()> {
+    print::word(rt, b"  refused: ")?;
+    print::number(rt, number)?;
+    print::line(rt, b" at ", place)?;
+    Ok(())
 }
 
 // What a build that is done says.
@@ -25,8 +27,9 @@ fn counts_of(says: [u64; 9]) -> Counts {
     }
 }
 
-fn counts(c: Counts) {
+fn counts(rt: &impl Print, c: Counts) -> io::Result<()> {
     form::fill(
+        rt,
         b"  done: edges #, weak #, roots #, long #, fields #, escapes #, dangling #\n",
         &[
             c.edges as u64,
@@ -37,32 +40,34 @@ fn counts(c: Counts) {
             c.escapes as u64,
             c.dangling,
         ],
-    );
+    )
 }
 
 // What is the same under every policy: edges and weak pairs together, and the ids that no object has.
-fn references(c: Counts) {
+fn references(rt: &impl Print, c: Counts) -> io::Result<()> {
     let edges = c.edges as u64;
     let weak = c.weak as u64;
     let sum = std::num::wrapping_add_u64(edges, weak);
     form::fill(
+        rt,
         b"  references: edges # + weak # = #, dangling #\n",
         &[edges, weak, sum, c.dangling],
-    );
+    )
 }
 
 // A kind's edges, weak pairs and missing ids.
-fn kind(name: &[u8], row: [u64; 3]) {
-    print::word(name);
-    form::fill(b" # # #", &row);
+fn kind(rt: &impl Print, name: &[u8], row: [u64; 3]) -> io::Result<()> {
+    print::word(rt, name)?;
+    form::fill(rt, b" # # #", &row)
 }
 
-fn account_of(account: [[u64; 3]; 4]) {
-    kind(b"  account: slot", account[0]);
-    kind(b", element", account[1]);
-    kind(b", static", account[2]);
-    kind(b", loader", account[3]);
-    print::word(b"\n");
+fn account_of(rt: &impl Print, account: [[u64; 3]; 4]) -> io::Result<()> {
+    kind(rt, b"  account: slot", account[0])?;
+    kind(rt, b", element", account[1])?;
+    kind(rt, b", static", account[2])?;
+    kind(rt, b", loader", account[3])?;
+    print::word(rt, b"\n")?;
+    Ok(())
 }
 
 // Whether nothing is left of the edges,
@@ -128,32 +133,35 @@ fn zero_codes(
 }
 
 fn edge_columns(
+    rt: &impl Print,
     targets: &[u32],
     labels: &[u32],
     weak_from: &[u32],
     weak_to: &[u32],
     roots: &[u32],
     working: &[u64],
-) {
-    column::of_u32(b"  targets", targets);
-    column::of_u32(b"  labels", labels);
-    column::of_u32(b"  weak_from", weak_from);
-    column::of_u32(b"  weak_to", weak_to);
-    column::of_u32(b"  roots", roots);
-    column::of_u64(b"  working", working);
+) -> io::Result<()> {
+    column::of_u32(rt, b"  targets", targets)?;
+    column::of_u32(rt, b"  labels", labels)?;
+    column::of_u32(rt, b"  weak_from", weak_from)?;
+    column::of_u32(rt, b"  weak_to", weak_to)?;
+    column::of_u32(rt, b"  roots", roots)?;
+    column::of_u64(rt, b"  working", working)
 }
 
 // After a refusal everything lent is zero.
-fn left(zero: bool) {
+fn left(rt: &impl Print, zero: bool) -> io::Result<()> {
     if zero {
-        print::word(b"  left zero\n");
+        print::word(rt, b"  left zero\n")?;
     } else {
-        print::word(b"  left NOT zero\n");
+        print::word(rt, b"  left NOT zero\n")?;
     }
+    Ok(())
 }
 
 // After an acceptance every column is written whole, the questions are asked, and the graph is inverted.
 fn done<'a>(
+    rt: &impl Print,
     c: Counts,
     halves: &'a [u32],
     cuts: &'a [usize],
@@ -176,16 +184,17 @@ fn done<'a>(
     codes: &[u16],
     counting: &[u64],
     ranking: &[u64],
-) {
-    counts(c);
+) -> io::Result<()> {
+    counts(rt, c)?;
     if n.several {
-        references(c);
+        references(rt, c)?;
     }
-    account_of(account);
-    edge_columns(targets, labels, weak_from, weak_to, roots, working);
-    column::offset_columns(bases, short, long_at, long_value, fields, table);
-    column::code_columns(escape_at, escape_label, codes, counting, ranking);
+    account_of(rt, account)?;
+    edge_columns(rt, targets, labels, weak_from, weak_to, roots, working)?;
+    column::offset_columns(rt, bases, short, long_at, long_value, fields, table)?;
+    column::code_columns(rt, escape_at, escape_label, codes, counting, ranking)?;
     answers::all(
+        rt,
         c,
         halves,
         cuts,
@@ -201,8 +210,9 @@ fn done<'a>(
         escape_at,
         escape_label,
         codes,
-    );
+    )?;
     case_incoming::all(
+        rt,
         c,
         n.objects,
         bases,
@@ -214,10 +224,11 @@ fn done<'a>(
         fields,
         escape_at,
         escape_label,
-    );
+    )
 }
 
 pub fn outcome<'a>(
+    rt: &impl Print,
     says: [u64; 9],
     halves: &'a [u32],
     cuts: &'a [usize],
@@ -240,9 +251,10 @@ pub fn outcome<'a>(
     codes: &[u16],
     counting: &[u64],
     ranking: &[u64],
-) {
+) -> io::Result<()> {
     if says[1] == 0 {
         done(
+            rt,
             counts_of(says),
             halves,
             cuts,
@@ -265,12 +277,15 @@ pub fn outcome<'a>(
             codes,
             counting,
             ranking,
-        );
-        return;
+        )?;
+        return Ok(());
     }
-    refused(says[1], says[2]);
+    refused(rt, says[1], says[2])?;
     let edges = zero_edges(targets, labels, weak_from, weak_to, roots, working);
     let accounted = zero_account(edges, account);
     let offsets = zero_offsets(accounted, bases, short, long_at, long_value, fields, table);
-    left(zero_codes(offsets, escape_at, escape_label, codes, counting, ranking));
+    left(
+        rt,
+        zero_codes(offsets, escape_at, escape_label, codes, counting, ranking),
+    )
 }

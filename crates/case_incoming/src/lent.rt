@@ -6,9 +6,11 @@ use crate::turn::ROWS;
 use crate::{held, show, turn};
 use case_text::arrays;
 use case_text::arrays::{EDGES, room};
+use std::io;
 
 // What is written of a turn.
 fn told(
+    rt: &impl Print,
     k: usize,
     says: [u64; 4],
     sources: &[u32],
@@ -18,10 +20,11 @@ fn told(
     in_long_at: &[u32],
     in_long_value: &[u64],
     working: &[u64],
-) {
+) -> io::Result<()> {
     match k {
         turn::AMPLE => {}
         turn::EXACT => show::columns(
+            rt,
             says,
             sources,
             places,
@@ -30,16 +33,18 @@ fn told(
             in_long_at,
             in_long_value,
             working,
-        ),
+        )?,
         turn::HOLDERS => held::objects(
+            rt,
             sources,
             places,
             in_bases,
             in_short,
             in_long_at,
             in_long_value,
-        ),
+        )?,
         _ => show::refusal(
+            rt,
             turn::column(k),
             says,
             sources,
@@ -49,8 +54,9 @@ fn told(
             in_long_at,
             in_long_value,
             working,
-        ),
+        )?,
     }
+    Ok(())
 }
 
 fn invert<'b>(
@@ -96,6 +102,7 @@ fn invert<'b>(
 
 // The call in the columns lent, and what is written of it.
 fn within<'b>(
+    rt: &impl Print,
     k: usize,
     says: &mut [u64; 4],
     bases: &[u64],
@@ -114,7 +121,7 @@ fn within<'b>(
     in_long_at: &'b mut [u32],
     in_long_value: &'b mut [u64],
     working: &'b mut [u64],
-) -> &'b [u32] {
+) -> io::Result<&'b [u32]> {
     invert(
         says,
         bases,
@@ -135,6 +142,7 @@ fn within<'b>(
         working,
     );
     told(
+        rt,
         k,
         *says,
         sources,
@@ -144,12 +152,13 @@ fn within<'b>(
         in_long_at,
         in_long_value,
         working,
-    );
-    sources
+    )?;
+    Ok(sources)
 }
 
 // A turn in columns of these rooms: what it says.
 pub(crate) fn run(
+    rt: &impl Print,
     k: usize,
     rooms: &[u64],
     bases: &[u64],
@@ -161,7 +170,7 @@ pub(crate) fn run(
     fields: &[u32],
     escape_at: &[u64],
     escape_label: &[u32],
-) -> [u64; 4] {
+) -> io::Result<[u64; 4]> {
     let mut says: [u64; 4] = [0; 4];
     let sources_room = room(rooms, 0, EDGES);
     let places_room = room(rooms, 1, EDGES);
@@ -178,6 +187,7 @@ pub(crate) fn run(
     let mut in_long_value: [u64; ROWS] = [9; ROWS];
     let mut working: [u64; ROWS] = [9; ROWS];
     within(
+        rt,
         k,
         &mut says,
         bases,
@@ -196,6 +206,6 @@ pub(crate) fn run(
         &mut in_long_at[..long_at_room],
         &mut in_long_value[..long_value_room],
         &mut working[..working_room],
-    );
-    says
+    )?;
+    Ok(says)
 }

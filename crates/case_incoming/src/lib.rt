@@ -1,6 +1,7 @@
 // What is written of the incoming side of a graph (M-103): its columns in just the room that they need, what is said where one of them is a number short,
 // and who holds each object.
 #![tactic(auto)]
+
 mod held;
 mod lent;
 mod show;
@@ -8,9 +9,11 @@ mod turn;
 
 use case_text::column::{used_u16, used_u32, used_u64};
 use rules::Counts;
+use std::io;
 
 // The turns on used parts. There is one place that runs them, so that their long arrays need the stack once.
 fn turns(
+    rt: &impl Print,
     objects: usize,
     bases: &[u64],
     short: &[u16],
@@ -21,7 +24,7 @@ fn turns(
     fields: &[u32],
     escape_at: &[u64],
     escape_label: &[u32],
-) {
+) -> io::Result<()> {
     let mut long = 0;
     let mut k = 0;
     while k < turn::TURNS {
@@ -29,6 +32,7 @@ fn turns(
         if turn::is_run(k, needs) {
             let rooms = turn::rooms(k, needs);
             let says = lent::run(
+                rt,
                 k,
                 &rooms,
                 bases,
@@ -40,15 +44,17 @@ fn turns(
                 fields,
                 escape_at,
                 escape_label,
-            );
+            )?;
             long = turn::long(k, long, says);
         }
         k += 1;
     }
+    Ok(())
 }
 
 // Of a build that is done, by its columns whole.
 pub fn all(
+    rt: &impl Print,
     c: Counts,
     objects: usize,
     bases: &[u64],
@@ -60,8 +66,9 @@ pub fn all(
     fields: &[u32],
     escape_at: &[u64],
     escape_label: &[u32],
-) {
+) -> io::Result<()> {
     turns(
+        rt,
         objects,
         used_u64(bases, turn::blocks(objects)),
         used_u16(short, turn::offsets(objects)),
@@ -72,5 +79,5 @@ pub fn all(
         used_u32(fields, c.fields),
         used_u64(escape_at, c.escapes),
         used_u32(escape_label, c.escapes),
-    );
+    )
 }

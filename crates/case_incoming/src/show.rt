@@ -1,22 +1,24 @@
 // What is written of the columns: each whole, or the refusal and whether it left all of them zero.
 use case_text::zero::{zero_u16, zero_u32, zero_u64};
 use case_text::{column, form};
+use std::io;
 
-fn done(says: [u64; 4]) {
-    form::fill(b"  incoming: entries #, long #\n", &[says[2], says[3]]);
+fn done(rt: &impl Print, says: [u64; 4]) -> io::Result<()> {
+    form::fill(rt, b"  incoming: entries #, long #\n", &[says[2], says[3]])
 }
 
 // Document 01's numbers.
-fn refused(says: [u64; 4]) {
-    form::fill(b" refused: # at #", &[says[1], says[2]]);
+fn refused(rt: &impl Print, says: [u64; 4]) -> io::Result<()> {
+    form::fill(rt, b" refused: # at #", &[says[1], says[2]])
 }
 
-fn left(zero: bool) {
+fn left(rt: &impl Print, zero: bool) -> io::Result<()> {
     if zero {
-        print::word(b" left zero\n");
+        print::word(rt, b" left zero\n")?;
     } else {
-        print::word(b" left NOT zero\n");
+        print::word(rt, b" left NOT zero\n")?;
     }
+    Ok(())
 }
 
 // Whether all columns are zero.
@@ -40,6 +42,7 @@ fn zero(
 
 // The columns whole. They have just the room that they need: anything but an acceptance is told.
 pub(crate) fn columns(
+    rt: &impl Print,
     says: [u64; 4],
     sources: &[u32],
     places: &[u32],
@@ -48,25 +51,26 @@ pub(crate) fn columns(
     in_long_at: &[u32],
     in_long_value: &[u64],
     working: &[u64],
-) {
+) -> io::Result<()> {
     if says[1] == 0 {
-        done(says);
+        done(rt, says)?;
     } else {
-        print::word(b"  incoming");
-        refused(says);
-        print::word(b"\n");
+        print::word(rt, b"  incoming")?;
+        refused(rt, says)?;
+        print::word(rt, b"\n")?;
     }
-    column::of_u32(b"  sources", sources);
-    column::of_u32(b"  places", places);
-    column::of_u64(b"  in_bases", in_bases);
-    column::of_u16(b"  in_short", in_short);
-    column::of_u32(b"  in_long_at", in_long_at);
-    column::of_u64(b"  in_long_value", in_long_value);
-    column::of_u64(b"  working", working);
+    column::of_u32(rt, b"  sources", sources)?;
+    column::of_u32(rt, b"  places", places)?;
+    column::of_u64(rt, b"  in_bases", in_bases)?;
+    column::of_u16(rt, b"  in_short", in_short)?;
+    column::of_u32(rt, b"  in_long_at", in_long_at)?;
+    column::of_u64(rt, b"  in_long_value", in_long_value)?;
+    column::of_u64(rt, b"  working", working)
 }
 
 // Column k is one number short: the refusal, and whether everything lent is zero after it.
 pub(crate) fn refusal(
+    rt: &impl Print,
     k: usize,
     says: [u64; 4],
     sources: &[u32],
@@ -76,21 +80,27 @@ pub(crate) fn refusal(
     in_long_at: &[u32],
     in_long_value: &[u64],
     working: &[u64],
-) {
-    print::word(b"  ");
-    print::word(form::line(
-        b"sources\nplaces\nin_bases\nin_short\nin_long_at\nin_long_value\nworking",
-        k,
-    ));
-    print::word(b" short");
-    refused(says);
-    left(zero(
-        sources,
-        places,
-        in_bases,
-        in_short,
-        in_long_at,
-        in_long_value,
-        working,
-    ));
+) -> io::Result<()> {
+    print::word(rt, b"  ")?;
+    print::word(
+        rt,
+        form::line(
+            b"sources\nplaces\nin_bases\nin_short\nin_long_at\nin_long_value\nworking",
+            k,
+        ),
+    )?;
+    print::word(rt, b" short")?;
+    refused(rt, says)?;
+    left(
+        rt,
+        zero(
+            sources,
+            places,
+            in_bases,
+            in_short,
+            in_long_at,
+            in_long_value,
+            working,
+        ),
+    )
 }

@@ -1,5 +1,6 @@
 // What can be wrong with the text, and how it is told.
 use crate::form;
+use std::io;
 
 #[derive(Clone, Copy)]
 pub enum Fault {
@@ -33,7 +34,7 @@ fn line(f: Fault) -> usize {
 }
 
 // The lines are in the order of the faults.
-fn why(f: Fault) {
+fn why(rt: &impl Print, f: Fault) -> io::Result<()> {
     let lines = b"a list is missing before this place
 a list more than a case has
 the list is not closed
@@ -46,13 +47,14 @@ the rooms of the case, in sets of seventeen
 a question is not a pair
 the text is too long
 ";
-    print::word(form::line(lines, line(f)));
-    print::word(b"\n");
+    print::word(rt, form::line(lines, line(f)))?;
+    print::word(rt, b"\n")?;
+    Ok(())
 }
 
-pub fn tell(f: Fault, at: usize) {
-    print::word(b"malformed text at byte ");
-    print::number(at as u64);
-    print::word(b": ");
-    why(f);
+pub fn tell(rt: &impl Print, f: Fault, at: usize) -> io::Result<()> {
+    print::word(rt, b"malformed text at byte ")?;
+    print::number(rt, at as u64)?;
+    print::word(rt, b": ")?;
+    why(rt, f)
 }

@@ -1,5 +1,6 @@
 // A form: a text whose marks `#` are places of numbers.
 use crate::text;
+use std::io;
 
 // Where a byte stands next; the end of the text where it does not.
 fn find(form: &[u8], from: usize, b: u8) -> usize {
@@ -35,18 +36,19 @@ pub fn line<'a>(lines: &'a [u8], k: usize) -> &'a [u8] {
 }
 
 // A form is written with a number in the place of each mark. Numbers for which it has no mark are left out.
-pub fn fill(form: &[u8], numbers: &[u64]) {
+pub fn fill(rt: &impl Print, form: &[u8], numbers: &[u64]) -> io::Result<()> {
     let mut at = 0;
     let mut k = 0;
     while k < numbers.len() {
         let end = find(form, at, b'#');
-        print::word(part(form, at, end));
+        print::word(rt, part(form, at, end))?;
         if form.len() <= end {
-            return;
+            return Ok(());
         }
-        print::number(numbers[k]);
+        print::number(rt, numbers[k])?;
         at = text::behind(form, end);
         k += 1;
     }
-    print::word(part(form, at, form.len()));
+    print::word(rt, part(form, at, form.len()))?;
+    Ok(())
 }

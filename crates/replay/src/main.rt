@@ -6,6 +6,7 @@
 // used part, then each object's span, edges and weak targets, the answers, and the incoming side; of a refusal its number and place, and whether all that was lent is zero.
 // A text that is malformed is told with the place, and nothing more is built.
 #![tactic(auto)]
+
 mod rooms;
 mod routes;
 
@@ -13,100 +14,117 @@ use case_graph::case::Sound;
 use case_graph::{case, lists};
 use case_text::fault::Fault;
 use case_text::lists::Listed;
-use case_text::{arrays, fault, text};
-use libc::STDIN_FILENO;
+use case_text::{arrays, fault, input, text};
+use std::io;
 
 // A title as the text has it.
-fn title(text: &[u8], start: usize, end: usize) {
+fn title(rt: &impl Print, text: &[u8], start: usize, end: usize) -> io::Result<()> {
     if end < start {
-        return;
+        return Ok(());
     }
     if text.len() < end {
-        return;
+        return Ok(());
     }
-    print::word(&text[start..end]);
-    print::word(b"\n");
+    print::word(rt, &text[start..end])?;
+    print::word(rt, b"\n")?;
+    Ok(())
 }
 
 // A case whose lists are read is built, unless they are none of a case. Where the next case begins.
 fn built<'a>(
+    rt: &impl Print,
     text: &[u8],
     behind: usize,
     bytes: &'a [u8],
     halves: &'a [u32],
     words: &'a [u64],
     cuts: &'a [usize],
-) -> usize {
+) -> io::Result<usize> {
     let next = text::seek(text, behind, text::LIST);
     if text::byte(text, next) == b'[' {
-        fault::tell(Fault::ListTooMany, next);
-        return text.len();
+        fault::tell(rt, Fault::ListTooMany, next)?;
+        return Ok(text.len());
     }
     match case::soundness(halves, words, cuts) {
         Sound::Yes => {
-            rooms::every(bytes, halves, words, cuts, case::numbers_of(words, cuts));
-            next
+            rooms::every(
+                rt,
+                bytes,
+                halves,
+                words,
+                cuts,
+                case::numbers_of(words, cuts),
+            )?;
+            Ok(next)
         }
         Sound::No(why) => {
-            fault::tell(why, behind);
-            text.len()
+            fault::tell(rt, why, behind)?;
+            Ok(text.len())
         }
     }
 }
 
 // The case whose title begins at a place, and where the next one begins; the end of the text where there is none, or the text is malformed.
 fn one(
+    rt: &impl Print,
     text: &[u8],
     at: usize,
     bytes: &mut [u8],
     halves: &mut [u32],
     words: &mut [u64],
     cuts: &mut [usize],
-) -> usize {
+) -> io::Result<usize> {
     let start = text::behind(text, at);
     let end = text::seek(text, start, text::TITLE);
     if text.len() <= end {
-        fault::tell(Fault::TitleNotClosed, at);
-        return text.len();
+        fault::tell(rt, Fault::TitleNotClosed, at)?;
+        return Ok(text.len());
     }
-    title(text, start, end);
+    title(rt, text, start, end)?;
     match lists::all(text, text::behind(text, end), bytes, halves, words, cuts) {
-        Listed::Done { next, used: _ } => built(text, next, bytes, halves, words, cuts),
+        Listed::Done { next, used: _ } => built(rt, text, next, bytes, halves, words, cuts),
         Listed::Bad { at: place, why } => {
-            fault::tell(why, place);
-            text.len()
+            fault::tell(rt, why, place)?;
+            Ok(text.len())
         }
     }
 }
 
 // Every case has a byte at least, so that there are no more turns than bytes.
-fn every(text: &[u8], bytes: &mut [u8], halves: &mut [u32], words: &mut [u64], cuts: &mut [usize]) {
+fn every(
+    rt: &impl Print,
+    text: &[u8],
+    bytes: &mut [u8],
+    halves: &mut [u32],
+    words: &mut [u64],
+    cuts: &mut [usize],
+) -> io::Result<()> {
     let mut at = text::seek(text, 0, text::TITLE);
     let mut turn = 0;
     while turn < text.len() {
         if text.len() <= at {
-            return;
+            return Ok(());
         }
-        at = one(text, at, bytes, halves, words, cuts);
+        at = one(rt, text, at, bytes, halves, words, cuts)?;
         turn += 1;
     }
+    Ok(())
 }
 
 // A text that fills its room may go on behind it.
-fn replay(text: &[u8]) {
+fn replay(rt: &impl Print, text: &[u8]) -> io::Result<()> {
     let mut bytes = arrays::bytes();
     let mut halves = arrays::halves();
     let mut words: [u64; 10000] = [0; 10000];
     let mut cuts: [usize; 56] = [0; 56];
     if arrays::TEXT <= text.len() {
-        fault::tell(Fault::TextTooLong, text.len());
-        return;
+        return fault::tell(rt, Fault::TextTooLong, text.len());
     }
-    every(text, &mut bytes, &mut halves, &mut words, &mut cuts);
+    every(rt, text, &mut bytes, &mut halves, &mut words, &mut cuts)
 }
 
-fn main() {
+fn main(rt: HostRuntime) -> io::Result<()> {
     let mut room = arrays::text();
-    let n = io::read_full(STDIN_FILENO, &mut room);
-    replay(&room[..n]);
+    let n = input::read_full(&rt, &mut room)?;
+    replay(&rt, &room[..n])
 }

@@ -4,9 +4,17 @@ use case_graph::case;
 use case_graph::case::{BLOCKS, Numbers, ROWS};
 use case_text::arrays::{EDGES, NAMED, room};
 use case_text::{arrays, column, form};
+use std::io;
 
 // The columns of a case, each with the room that the case names.
-fn lend<'a>(bytes: &'a [u8], halves: &'a [u32], words: &'a [u64], cuts: &'a [usize], n: Numbers) {
+fn lend<'a>(
+    rt: &impl Print,
+    bytes: &'a [u8],
+    halves: &'a [u32],
+    words: &'a [u64],
+    cuts: &'a [usize],
+    n: Numbers,
+) -> io::Result<()> {
     let rooms = case::rooms_of(words, cuts, n.set);
     let targets_room = room(rooms, 0, EDGES);
     let labels_room = room(rooms, 1, EDGES);
@@ -44,6 +52,7 @@ fn lend<'a>(bytes: &'a [u8], halves: &'a [u32], words: &'a [u64], cuts: &'a [usi
     let mut counting = arrays::named_u64();
     let mut ranking = arrays::named_u64();
     routes::run(
+        rt,
         bytes,
         halves,
         words,
@@ -67,15 +76,15 @@ fn lend<'a>(bytes: &'a [u8], halves: &'a [u32], words: &'a [u64], cuts: &'a [usi
         &mut codes[..codes_room],
         &mut counting[..counting_room],
         &mut ranking[..ranking_room],
-    );
+    )
 }
 
 // Which rooms are lent, where the case has several sets of them.
-fn tell<'a>(words: &'a [u64], cuts: &'a [usize], n: Numbers) {
+fn tell<'a>(rt: &impl Print, words: &'a [u64], cuts: &'a [usize], n: Numbers) -> io::Result<()> {
     if case::sets_of(words, cuts) < 2 {
-        return;
+        return Ok(());
     }
-    column::of_u64(b"  rooms", first(case::rooms_of(words, cuts, n.set)));
+    column::of_u64(rt, b"  rooms", first(case::rooms_of(words, cuts, n.set)))
 }
 
 fn first<'a>(rooms: &'a [u64]) -> &'a [u64] {
@@ -86,15 +95,23 @@ fn first<'a>(rooms: &'a [u64]) -> &'a [u64] {
 }
 
 // The case in each of its sets of rooms.
-fn each<'a>(bytes: &'a [u8], halves: &'a [u32], words: &'a [u64], cuts: &'a [usize], n: Numbers) {
+fn each<'a>(
+    rt: &impl Print,
+    bytes: &'a [u8],
+    halves: &'a [u32],
+    words: &'a [u64],
+    cuts: &'a [usize],
+    n: Numbers,
+) -> io::Result<()> {
     let sets = case::sets_of(words, cuts);
     let mut set = 0;
     while set < sets {
         let own = case::with_set(n, set);
-        tell(words, cuts, own);
-        lend(bytes, halves, words, cuts, own);
+        tell(rt, words, cuts, own)?;
+        lend(rt, bytes, halves, words, cuts, own)?;
         set += 1;
     }
+    Ok(())
 }
 
 fn flag(kept: bool) -> u64 {
@@ -102,30 +119,33 @@ fn flag(kept: bool) -> u64 {
 }
 
 // Which policy is followed, where the case has several.
-fn tell_policy(n: Numbers) {
+fn tell_policy(rt: &impl Print, n: Numbers) -> io::Result<()> {
     if !n.several {
-        return;
+        return Ok(());
     }
     form::fill(
+        rt,
         b"  policy: keep soft #, keep weak #\n",
         &[flag(n.soft), flag(n.weak)],
-    );
+    )
 }
 
 // The case under its policy, or under every policy.
 pub(crate) fn every<'a>(
+    rt: &impl Print,
     bytes: &'a [u8],
     halves: &'a [u32],
     words: &'a [u64],
     cuts: &'a [usize],
     n: Numbers,
-) {
+) -> io::Result<()> {
     let policies = case::policies_of(words, cuts);
     let mut policy = 0;
     while policy < policies {
         let own = case::with_policy(n, policies, policy);
-        tell_policy(own);
-        each(bytes, halves, words, cuts, own);
+        tell_policy(rt, own)?;
+        each(rt, bytes, halves, words, cuts, own)?;
         policy += 1;
     }
+    Ok(())
 }

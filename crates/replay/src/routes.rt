@@ -5,6 +5,7 @@
 use case_graph::case::{Numbers, policy_of};
 use case_graph::{lists, show};
 use case_text::lists::{of_u8, of_u32, of_u64};
+use std::io;
 
 fn copied<'a, 'b>(
     bytes: &'a [u8],
@@ -241,6 +242,7 @@ fn by_route<'a, 'b>(
 }
 
 pub(crate) fn run<'a, 'b>(
+    rt: &impl Print,
     bytes: &'a [u8],
     halves: &'a [u32],
     words: &'a [u64],
@@ -264,7 +266,7 @@ pub(crate) fn run<'a, 'b>(
     codes: &'b mut [u16],
     counting: &'b mut [u64],
     ranking: &'b mut [u64],
-) -> &'b [u32] {
+) -> io::Result<&'b [u32]> {
     let mut says: [u64; 9] = [0; 9];
     by_route(
         bytes,
@@ -293,6 +295,7 @@ pub(crate) fn run<'a, 'b>(
         ranking,
     );
     show::outcome(
+        rt,
         says,
         halves,
         cuts,
@@ -315,6 +318,6 @@ pub(crate) fn run<'a, 'b>(
         codes,
         counting,
         ranking,
-    );
-    targets
+    )?;
+    Ok(targets)
 }

@@ -4,6 +4,7 @@ use case_text::column::used_u64;
 use case_text::lists::{of_u8, of_u32, of_u64};
 use case_text::{arrays, column};
 use rules::{Checked, ReferencePolicy};
+use std::io;
 
 fn number(xs: &[u64], k: usize) -> u64 {
     if k < xs.len() { xs[k] } else { 0 }
@@ -108,29 +109,43 @@ fn used(objects: usize) -> usize {
 
 // By the copied route, in a working column that held nines; on demand with what is left in it.
 pub(crate) fn copied<'a>(
+    rt: &impl Print,
     bytes: &'a [u8],
     halves: &'a [u32],
     words: &'a [u64],
     cuts: &'a [usize],
     shown: bool,
-) {
+) -> io::Result<()> {
     let mut working = arrays::named_u64();
     let c = check_copied(bytes, halves, words, cuts, &mut working);
-    answer::checked(b"; copied: ", c);
+    answer::checked(rt, b"; copied: ", c)?;
     if shown {
         let n = of_u64(words, cuts, names::IDS).len();
-        column::of_u64(b", working", used_u64(&working, used(n)));
+        column::of_u64(rt, b", working", used_u64(&working, used(n)))?;
     }
+    Ok(())
 }
 
-pub(crate) fn raw<'a>(bytes: &'a [u8], halves: &'a [u32], words: &'a [u64], cuts: &'a [usize]) {
+pub(crate) fn raw<'a>(
+    rt: &impl Print,
+    bytes: &'a [u8],
+    halves: &'a [u32],
+    words: &'a [u64],
+    cuts: &'a [usize],
+) -> io::Result<()> {
     let mut working = arrays::named_u64();
     let c = check_raw(bytes, halves, words, cuts, &mut working);
-    answer::checked(b"; raw: ", c);
+    answer::checked(rt, b"; raw: ", c)
 }
 
 // The checks of `from_parts`.
-pub(crate) fn parts<'a>(bytes: &'a [u8], halves: &'a [u32], words: &'a [u64], cuts: &'a [usize]) {
+pub(crate) fn parts<'a>(
+    rt: &impl Print,
+    bytes: &'a [u8],
+    halves: &'a [u32],
+    words: &'a [u64],
+    cuts: &'a [usize],
+) -> io::Result<()> {
     let c = check_parts::check_parts(
         of_u64(words, cuts, names::CLASS_IDS),
         of_u64(words, cuts, names::LOADERS),
@@ -154,5 +169,5 @@ pub(crate) fn parts<'a>(bytes: &'a [u8], halves: &'a [u32], words: &'a [u64], cu
         of_u32(halves, cuts, names::WEAK_TO),
         of_u32(halves, cuts, names::ROOTS_OUT),
     );
-    answer::checked(b"; parts: ", c);
+    answer::checked(rt, b"; parts: ", c)
 }

@@ -9,6 +9,7 @@ use case_text::column::{used_u32, used_u64};
 use case_text::lists::{of_u8, of_u32, of_u64};
 use case_text::{arrays, column};
 use labels::EdgeLabel;
+use std::io;
 
 const ROWS: usize = 8;
 
@@ -110,27 +111,33 @@ fn count_read(
 
 // Of each object, how many of its labels are read back from their codes.
 fn read_back(
+    rt: &impl Print,
     offsets: &[u64],
     labels: &[u32],
     fields: &[u32],
     escape_at: &[u64],
     escape_label: &[u32],
     codes: &[u16],
-) {
-    print::word(b"  read back");
+) -> io::Result<()> {
+    print::word(rt, b"  read back")?;
     let mut o = 1;
     while o < offsets.len() {
         let from = offsets[o - 1] as usize;
         let to = offsets[o] as usize;
-        print::word(b" ");
-        print::number(count_read(labels, codes, from, to, fields, escape_at, escape_label) as u64);
+        print::word(rt, b" ")?;
+        print::number(
+            rt,
+            count_read(labels, codes, from, to, fields, escape_at, escape_label) as u64,
+        )?;
         o += 1;
     }
-    print::word(b"\n");
+    print::word(rt, b"\n")?;
+    Ok(())
 }
 
 // After an acceptance.
 fn read<'a>(
+    rt: &impl Print,
     says: [u64; 9],
     halves: &'a [u32],
     words: &'a [u64],
@@ -139,22 +146,24 @@ fn read<'a>(
     escape_at: &[u64],
     escape_label: &[u32],
     codes: &[u16],
-) {
+) -> io::Result<()> {
     if says[1] != 0 {
-        return;
+        return Ok(());
     }
     read_back(
+        rt,
         of_u64(words, cuts, names::OFFSETS),
         of_u32(halves, cuts, names::LABELS),
         used_u32(fields, says[6] as usize),
         used_u64(escape_at, says[7] as usize),
         used_u32(escape_label, says[7] as usize),
         codes,
-    );
+    )
 }
 
 // What is left in the columns.
 fn left<'a>(
+    rt: &impl Print,
     says: [u64; 9],
     halves: &'a [u32],
     words: &'a [u64],
@@ -170,11 +179,12 @@ fn left<'a>(
     codes: &[u16],
     counting: &[u64],
     ranking: &[u64],
-) {
-    answer::built(says);
-    column::offset_columns(bases, short, long_at, long_value, fields, table);
-    column::code_columns(escape_at, escape_label, codes, counting, ranking);
+) -> io::Result<()> {
+    answer::built(rt, says)?;
+    column::offset_columns(rt, bases, short, long_at, long_value, fields, table)?;
+    column::code_columns(rt, escape_at, escape_label, codes, counting, ranking)?;
     read(
+        rt,
         says,
         halves,
         words,
@@ -183,10 +193,11 @@ fn left<'a>(
         escape_at,
         escape_label,
         codes,
-    );
+    )
 }
 
 fn show<'a, 'b>(
+    rt: &impl Print,
     bytes: &'a [u8],
     halves: &'a [u32],
     words: &'a [u64],
@@ -202,7 +213,7 @@ fn show<'a, 'b>(
     codes: &'b mut [u16],
     counting: &'b mut [u64],
     ranking: &'b mut [u64],
-) -> &'b [u64] {
+) -> io::Result<&'b [u64]> {
     let mut says: [u64; 9] = [0; 9];
     hand(
         bytes,
@@ -223,6 +234,7 @@ fn show<'a, 'b>(
         ranking,
     );
     left(
+        rt,
         says,
         halves,
         words,
@@ -238,12 +250,18 @@ fn show<'a, 'b>(
         codes,
         counting,
         ranking,
-    );
-    bases
+    )?;
+    Ok(bases)
 }
 
 // The columns hold nines before.
-pub(crate) fn lend<'a>(bytes: &'a [u8], halves: &'a [u32], words: &'a [u64], cuts: &'a [usize]) {
+pub(crate) fn lend<'a>(
+    rt: &impl Print,
+    bytes: &'a [u8],
+    halves: &'a [u32],
+    words: &'a [u64],
+    cuts: &'a [usize],
+) -> io::Result<()> {
     let rooms = of_u64(words, cuts, names::ROOMS);
     let bases_room = room(rooms, 0, ROWS);
     let short_room = room(rooms, 1, ROWS);
@@ -268,6 +286,7 @@ pub(crate) fn lend<'a>(bytes: &'a [u8], halves: &'a [u32], words: &'a [u64], cut
     let mut counting = arrays::named_u64();
     let mut ranking = arrays::named_u64();
     show(
+        rt,
         bytes,
         halves,
         words,
@@ -283,5 +302,6 @@ pub(crate) fn lend<'a>(bytes: &'a [u8], halves: &'a [u32], words: &'a [u64], cut
         &mut codes[..codes_room],
         &mut counting[..counting_room],
         &mut ranking[..ranking_room],
-    );
+    )?;
+    Ok(())
 }

@@ -4,6 +4,7 @@
 // `keep` makes the lists as they stand those that every later case begins with. Any other word is a call that is made with them. What stands before the first
 // title is a remark. A text that is malformed is told with the place, and nothing more is run.
 #![tactic(auto)]
+
 mod answer;
 mod checks;
 mod hand;
@@ -12,8 +13,8 @@ mod slots;
 
 use case_text::fault::Fault;
 use case_text::lists::{Listed, Used};
-use case_text::{arrays, fault, lists, text};
-use libc::STDIN_FILENO;
+use case_text::{arrays, fault, input, lists, text};
+use std::io;
 
 // Where the text goes on, and how much of the arenas is used: by the case, and by the lists that are kept.
 #[derive(Clone, Copy)]
@@ -41,37 +42,45 @@ fn copy(from: &[usize], to: &mut [usize]) {
 }
 
 // A title as the text has it, on a line of its own or in front of what the case's calls write.
-fn written(text: &[u8], start: usize, end: usize) {
+fn written(rt: &impl Print, text: &[u8], start: usize, end: usize) -> io::Result<()> {
     if end < start {
-        return;
+        return Ok(());
     }
     if text.len() < end {
-        return;
+        return Ok(());
     }
-    print::word(b"\n");
-    print::word(&text[start..end]);
+    print::word(rt, b"\n")?;
+    print::word(rt, &text[start..end])?;
+    Ok(())
 }
 
 // The case whose title begins at a place begins with the lists that are kept.
-fn title(text: &[u8], s: State, cuts: &mut [usize], kept: &[usize]) -> State {
+fn title(
+    rt: &impl Print,
+    text: &[u8],
+    s: State,
+    cuts: &mut [usize],
+    kept: &[usize],
+) -> io::Result<State> {
     let start = text::behind(text, s.at);
     let end = text::seek(text, start, text::TITLE);
     if text.len() <= end {
-        fault::tell(Fault::TitleNotClosed, s.at);
-        return to(s, text.len());
+        fault::tell(rt, Fault::TitleNotClosed, s.at)?;
+        return Ok(to(s, text.len()));
     }
-    written(text, start, end);
+    written(rt, text, start, end)?;
     copy(kept, cuts);
     let used = s.kept;
-    State {
+    Ok(State {
         at: text::behind(text, end),
         used,
         kept: used,
-    }
+    })
 }
 
 // List k is the one behind the word that ends at `end`.
 fn list(
+    rt: &impl Print,
     text: &[u8],
     end: usize,
     k: usize,
@@ -80,7 +89,7 @@ fn list(
     halves: &mut [u32],
     words: &mut [u64],
     cuts: &mut [usize],
-) -> State {
+) -> io::Result<State> {
     let width = names::width(k);
     let before = s.used;
     let kept = s.kept;
@@ -92,32 +101,40 @@ fn list(
                 lists::end_of(before, width),
                 lists::end_of(used, width),
             );
-            State {
+            Ok(State {
                 at: next,
                 used,
                 kept,
-            }
+            })
         }
         Listed::Bad { at, why } => {
-            fault::tell(why, at);
-            to(s, text.len())
+            fault::tell(rt, why, at)?;
+            Ok(to(s, text.len()))
         }
     }
 }
 
-fn call<'a>(k: usize, bytes: &'a [u8], halves: &'a [u32], words: &'a [u64], cuts: &'a [usize]) {
+fn call<'a>(
+    rt: &impl Print,
+    k: usize,
+    bytes: &'a [u8],
+    halves: &'a [u32],
+    words: &'a [u64],
+    cuts: &'a [usize],
+) -> io::Result<()> {
     match k {
-        names::COPIED => checks::copied(bytes, halves, words, cuts, false),
-        names::WORKING => checks::copied(bytes, halves, words, cuts, true),
-        names::RAW => checks::raw(bytes, halves, words, cuts),
-        names::PARTS => checks::parts(bytes, halves, words, cuts),
-        names::HAND => hand::lend(bytes, halves, words, cuts),
-        names::COLUMNS => slots::lend(bytes, halves, words, cuts, false),
-        names::ROWS => slots::lend(bytes, halves, words, cuts, true),
+        names::COPIED => checks::copied(rt, bytes, halves, words, cuts, false)?,
+        names::WORKING => checks::copied(rt, bytes, halves, words, cuts, true)?,
+        names::RAW => checks::raw(rt, bytes, halves, words, cuts)?,
+        names::PARTS => checks::parts(rt, bytes, halves, words, cuts)?,
+        names::HAND => hand::lend(rt, bytes, halves, words, cuts)?,
+        names::COLUMNS => slots::lend(rt, bytes, halves, words, cuts, false)?,
+        names::ROWS => slots::lend(rt, bytes, halves, words, cuts, true)?,
         _ => {
-            print::word(b"; no such call");
+            print::word(rt, b"; no such call")?;
         }
     }
+    Ok(())
 }
 
 fn keep(end: usize, s: State, cuts: &[usize], kept: &mut [usize]) -> State {
@@ -131,6 +148,7 @@ fn keep(end: usize, s: State, cuts: &[usize], kept: &mut [usize]) -> State {
 }
 
 fn word(
+    rt: &impl Print,
     text: &[u8],
     s: State,
     bytes: &mut [u8],
@@ -138,21 +156,22 @@ fn word(
     words: &mut [u64],
     cuts: &mut [usize],
     kept: &mut [usize],
-) -> State {
+) -> io::Result<State> {
     let end = names::end_of(text, s.at);
     let k = names::number(text, s.at, end);
     if k < names::LISTS {
-        return list(text, end, k, s, bytes, halves, words, cuts);
+        return list(rt, text, end, k, s, bytes, halves, words, cuts);
     }
     if k == names::KEEP {
-        return keep(end, s, cuts, kept);
+        return Ok(keep(end, s, cuts, kept));
     }
-    call(k, bytes, halves, words, cuts);
-    to(s, end)
+    call(rt, k, bytes, halves, words, cuts)?;
+    Ok(to(s, end))
 }
 
 // The word or the title at a place.
 fn one(
+    rt: &impl Print,
     text: &[u8],
     s: State,
     bytes: &mut [u8],
@@ -160,22 +179,23 @@ fn one(
     words: &mut [u64],
     cuts: &mut [usize],
     kept: &mut [usize],
-) -> State {
+) -> io::Result<State> {
     if text::byte(text, s.at) == b'"' {
-        return title(text, s, cuts, kept);
+        return title(rt, text, s, cuts, kept);
     }
-    word(text, s, bytes, halves, words, cuts, kept)
+    word(rt, text, s, bytes, halves, words, cuts, kept)
 }
 
 // Every word has a byte at least, so that there are no more turns than bytes.
 fn every(
+    rt: &impl Print,
     text: &[u8],
     bytes: &mut [u8],
     halves: &mut [u32],
     words: &mut [u64],
     cuts: &mut [usize],
     kept: &mut [usize],
-) {
+) -> io::Result<()> {
     let none = Used {
         bytes: 0,
         halves: 0,
@@ -191,36 +211,38 @@ fn every(
         turn += 1;
         s.at = names::next(text, s.at);
         if text.len() <= s.at {
-            return;
+            return Ok(());
         }
-        s = one(text, s, bytes, halves, words, cuts, kept);
+        s = one(rt, text, s, bytes, halves, words, cuts, kept)?;
     }
+    Ok(())
 }
 
 // A text that fills its room may go on behind it.
-fn run(text: &[u8]) {
+fn run(rt: &impl Print, text: &[u8]) -> io::Result<()> {
     let mut bytes = arrays::bytes();
     let mut halves = arrays::halves();
     let mut words = arrays::named_u64();
     let mut cuts: [usize; 100] = [0; 100];
     let mut kept: [usize; 100] = [0; 100];
     if arrays::TEXT <= text.len() {
-        fault::tell(Fault::TextTooLong, text.len());
-        return;
+        return fault::tell(rt, Fault::TextTooLong, text.len());
     }
     every(
+        rt,
         text,
         &mut bytes,
         &mut halves,
         &mut words,
         &mut cuts,
         &mut kept,
-    );
-    print::word(b"\n");
+    )?;
+    print::word(rt, b"\n")?;
+    Ok(())
 }
 
-fn main() {
+fn main(rt: HostRuntime) -> io::Result<()> {
     let mut room = arrays::text();
-    let n = io::read_full(STDIN_FILENO, &mut room);
-    run(&room[..n]);
+    let n = input::read_full(&rt, &mut room)?;
+    run(&rt, &room[..n])
 }

@@ -6,6 +6,7 @@ use crate::names;
 use case_text::arrays::room;
 use case_text::lists::{of_u8, of_u32, of_u64};
 use slot_rows::{Filled, SlotRow};
+use std::io;
 
 const ROWS: usize = 8;
 
@@ -43,36 +44,40 @@ fn row(offsets: &[u32], labels: &[u32], weak: &[u8], k: usize) -> SlotRow {
     r
 }
 
-fn answer(r: Filled) {
+fn answer(rt: &impl Print, r: Filled) -> io::Result<()> {
     match r {
         Filled::Done(n) => {
-            print::line(b"; rows ", n as u64);
+            print::line(rt, b"; rows ", n as u64)?;
         }
         Filled::Room(k) => {
-            print::line(b"; refused: ROOM, 9, buffer ", k as u64);
+            print::line(rt, b"; refused: ROOM, 9, buffer ", k as u64)?;
         }
     }
+    Ok(())
 }
 
-fn next(x: u8) {
-    print::word(b" ");
-    print::number(x as u64);
+fn next(rt: &impl Print, x: u8) -> io::Result<()> {
+    print::word(rt, b" ")?;
+    print::number(rt, x as u64)?;
+    Ok(())
 }
 
-fn flags(xs: &[u8]) {
+fn flags(rt: &impl Print, xs: &[u8]) -> io::Result<()> {
     let mut i = 0;
     while i < xs.len() {
-        next(xs[i]);
+        next(rt, xs[i])?;
         i += 1;
     }
+    Ok(())
 }
 
-fn columns(offsets: &[u32], labels: &[u32], weak: &[u8]) {
-    print::column_u32(b"  offsets", offsets);
-    print::column_u32(b"  labels", labels);
-    print::word(b"  weak");
-    flags(weak);
-    print::word(b"\n");
+fn columns(rt: &impl Print, offsets: &[u32], labels: &[u32], weak: &[u8]) -> io::Result<()> {
+    print::column_u32(rt, b"  offsets", offsets)?;
+    print::column_u32(rt, b"  labels", labels)?;
+    print::word(rt, b"  weak")?;
+    flags(rt, weak)?;
+    print::word(rt, b"\n")?;
+    Ok(())
 }
 
 fn fill(
@@ -97,6 +102,7 @@ fn fill(
 }
 
 fn show<'a>(
+    rt: &impl Print,
     bytes: &'a [u8],
     halves: &'a [u32],
     cuts: &'a [usize],
@@ -104,27 +110,31 @@ fn show<'a>(
     offsets: &mut [u32],
     labels: &mut [u32],
     weak: &mut [u8],
-) {
-    answer(fill(
-        structs,
-        of_u32(halves, cuts, names::SLOT_OFFSETS),
-        of_u32(halves, cuts, names::SLOT_LABELS),
-        of_u8(bytes, cuts, names::SLOT_WEAK),
-        offsets,
-        labels,
-        weak,
-    ));
-    columns(offsets, labels, weak);
+) -> io::Result<()> {
+    answer(
+        rt,
+        fill(
+            structs,
+            of_u32(halves, cuts, names::SLOT_OFFSETS),
+            of_u32(halves, cuts, names::SLOT_LABELS),
+            of_u8(bytes, cuts, names::SLOT_WEAK),
+            offsets,
+            labels,
+            weak,
+        ),
+    )?;
+    columns(rt, offsets, labels, weak)
 }
 
 // What the columns hold before, nines, is seen behind the rows if it is not cleared.
 pub(crate) fn lend<'a>(
+    rt: &impl Print,
     bytes: &'a [u8],
     halves: &'a [u32],
     words: &'a [u64],
     cuts: &'a [usize],
     structs: bool,
-) {
+) -> io::Result<()> {
     let rooms = of_u64(words, cuts, names::ROOMS);
     let offsets_room = room(rooms, 0, ROWS);
     let labels_room = room(rooms, 1, ROWS);
@@ -133,6 +143,7 @@ pub(crate) fn lend<'a>(
     let mut labels: [u32; ROWS] = [9; ROWS];
     let mut weak: [u8; ROWS] = [9; ROWS];
     show(
+        rt,
         bytes,
         halves,
         cuts,
@@ -140,5 +151,5 @@ pub(crate) fn lend<'a>(
         &mut offsets[..offsets_room],
         &mut labels[..labels_room],
         &mut weak[..weak_room],
-    );
+    )
 }

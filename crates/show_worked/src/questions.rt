@@ -2,25 +2,30 @@
 use crate::refused;
 use case_text::form;
 use rules::{ExactLabel, Field, Label, LabelOf, ObjectEdges, Referent};
+use std::io;
 
-fn object_of(t: u32) {
-    print::line(b" object ", t as u64);
+fn object_of(rt: &impl Print, t: u32) -> io::Result<()> {
+    print::line(rt, b" object ", t as u64)?;
+    Ok(())
 }
 
-fn label_is(l: u32) {
-    print::line(b" label ", l as u64);
+fn label_is(rt: &impl Print, l: u32) -> io::Result<()> {
+    print::line(rt, b" label ", l as u64)?;
+    Ok(())
 }
 
-fn nothing() {
-    print::word(b" nothing\n");
+fn nothing(rt: &impl Print) -> io::Result<()> {
+    print::word(rt, b" nothing\n")?;
+    Ok(())
 }
 
-fn no_answer(line: usize, place: usize) {
-    print::word(b" ");
-    refused::tell(line, place);
+fn no_answer(rt: &impl Print, line: usize, place: usize) -> io::Result<()> {
+    print::word(rt, b" ")?;
+    refused::tell(rt, line, place)
 }
 
 fn field(
+    rt: &impl Print,
     question: &[u8],
     object: usize,
     label: u32,
@@ -33,8 +38,8 @@ fn field(
     escape_at: &[u64],
     escape_label: &[u32],
     codes: &[u16],
-) {
-    print::word(question);
+) -> io::Result<()> {
+    print::word(rt, question)?;
     match ask_field::field(
         bases,
         short,
@@ -48,14 +53,15 @@ fn field(
         object,
         label,
     ) {
-        Field::Target(t) => object_of(t),
-        Field::Nothing => nothing(),
-        Field::Index(i) => no_answer(refused::INDEX, i),
-        Field::Columns(o) => no_answer(refused::COLUMNS, o),
+        Field::Target(t) => object_of(rt, t),
+        Field::Nothing => nothing(rt),
+        Field::Index(i) => no_answer(rt, refused::INDEX, i),
+        Field::Columns(o) => no_answer(rt, refused::COLUMNS, o),
     }
 }
 
 fn referent(
+    rt: &impl Print,
     question: &[u8],
     object: usize,
     label: u32,
@@ -70,8 +76,8 @@ fn referent(
     escape_at: &[u64],
     escape_label: &[u32],
     codes: &[u16],
-) {
-    print::word(question);
+) -> io::Result<()> {
+    print::word(rt, question)?;
     match ask_field::referent(
         bases,
         short,
@@ -87,14 +93,15 @@ fn referent(
         object,
         label,
     ) {
-        Referent::Target(t) => object_of(t),
-        Referent::Nothing => nothing(),
-        Referent::Index(i) => no_answer(refused::INDEX, i),
-        Referent::Columns(o) => no_answer(refused::COLUMNS, o),
+        Referent::Target(t) => object_of(rt, t),
+        Referent::Nothing => nothing(rt),
+        Referent::Index(i) => no_answer(rt, refused::INDEX, i),
+        Referent::Columns(o) => no_answer(rt, refused::COLUMNS, o),
     }
 }
 
 fn exact_label(
+    rt: &impl Print,
     question: &[u8],
     object: usize,
     edge: usize,
@@ -107,8 +114,8 @@ fn exact_label(
     escape_at: &[u64],
     escape_label: &[u32],
     codes: &[u16],
-) {
-    print::word(question);
+) -> io::Result<()> {
+    print::word(rt, question)?;
     match ask_label::exact_label(
         bases,
         short,
@@ -122,13 +129,14 @@ fn exact_label(
         object,
         edge,
     ) {
-        ExactLabel::Is(l) => label_is(l.0),
-        ExactLabel::Index(i) => no_answer(refused::INDEX, i),
-        ExactLabel::Columns(o) => no_answer(refused::COLUMNS, o),
+        ExactLabel::Is(l) => label_is(rt, l.0),
+        ExactLabel::Index(i) => no_answer(rt, refused::INDEX, i),
+        ExactLabel::Columns(o) => no_answer(rt, refused::COLUMNS, o),
     }
 }
 
 fn label_of(
+    rt: &impl Print,
     question: &[u8],
     object: usize,
     target: u32,
@@ -141,8 +149,8 @@ fn label_of(
     escape_at: &[u64],
     escape_label: &[u32],
     codes: &[u16],
-) {
-    print::word(question);
+) -> io::Result<()> {
+    print::word(rt, question)?;
     match ask_label::label_of(
         bases,
         short,
@@ -156,41 +164,44 @@ fn label_of(
         object,
         target,
     ) {
-        LabelOf::Is(l) => label_is(l.0),
-        LabelOf::Nothing => nothing(),
-        LabelOf::Index(i) => no_answer(refused::INDEX, i),
-        LabelOf::Columns(o) => no_answer(refused::COLUMNS, o),
+        LabelOf::Is(l) => label_is(rt, l.0),
+        LabelOf::Nothing => nothing(rt),
+        LabelOf::Index(i) => no_answer(rt, refused::INDEX, i),
+        LabelOf::Columns(o) => no_answer(rt, refused::COLUMNS, o),
     }
 }
 
-fn edge(target: u32, label: u32) {
+fn edge(rt: &impl Print, target: u32, label: u32) -> io::Result<()> {
     form::fill(
+        rt,
         b"    object #\n      by label #\n",
         &[target as u64, label as u64],
-    );
+    )
 }
 
-fn no_edges(line: usize, place: usize) {
-    print::word(b"    ");
-    refused::tell(line, place);
+fn no_edges(rt: &impl Print, line: usize, place: usize) -> io::Result<()> {
+    print::word(rt, b"    ")?;
+    refused::tell(rt, line, place)
 }
 
-fn list(own_targets: &[u32], own_labels: &[u32], count: usize) {
+fn list(rt: &impl Print, own_targets: &[u32], own_labels: &[u32], count: usize) -> io::Result<()> {
     let mut k = 0;
     while k < count {
         if own_targets.len() <= k {
-            return;
+            return Ok(());
         }
         if own_labels.len() <= k {
-            return;
+            return Ok(());
         }
-        edge(own_targets[k], own_labels[k]);
+        edge(rt, own_targets[k], own_labels[k])?;
         k += 1;
     }
+    Ok(())
 }
 
 // All edges of an object, in these columns.
 fn edges(
+    rt: &impl Print,
     question: &[u8],
     object: usize,
     targets: &[u32],
@@ -204,8 +215,8 @@ fn edges(
     codes: &[u16],
     own_targets: &mut [u32],
     own_labels: &mut [u32],
-) {
-    print::word(question);
+) -> io::Result<()> {
+    print::word(rt, question)?;
     match ask_edges::object_edges(
         bases,
         short,
@@ -220,14 +231,15 @@ fn edges(
         own_targets,
         own_labels,
     ) {
-        ObjectEdges::Edges(n) => list(own_targets, own_labels, n),
-        ObjectEdges::Room(b) => no_edges(refused::ROOM, b),
-        ObjectEdges::Index(i) => no_edges(refused::INDEX, i),
-        ObjectEdges::Columns(o) => no_edges(refused::COLUMNS, o),
+        ObjectEdges::Edges(n) => list(rt, own_targets, own_labels, n),
+        ObjectEdges::Room(b) => no_edges(rt, refused::ROOM, b),
+        ObjectEdges::Index(i) => no_edges(rt, refused::INDEX, i),
+        ObjectEdges::Columns(o) => no_edges(rt, refused::COLUMNS, o),
     }
 }
 
 fn all_fields(
+    rt: &impl Print,
     targets: &[u32],
     bases: &[u64],
     short: &[u16],
@@ -237,9 +249,10 @@ fn all_fields(
     escape_at: &[u64],
     escape_label: &[u32],
     codes: &[u16],
-) {
-    print::word(b"\n(i) fields, found by their codes\n");
+) -> io::Result<()> {
+    print::word(rt, b"\n(i) fields, found by their codes\n")?;
     field(
+        rt,
         b"  field(2, ARRAY_ELEMENT):",
         2,
         Label::ARRAY_ELEMENT,
@@ -252,8 +265,9 @@ fn all_fields(
         escape_at,
         escape_label,
         codes,
-    );
+    )?;
     field(
+        rt,
         b"  field(2, ARRAY_ELEMENT + 1):",
         2,
         Label::ARRAY_ELEMENT + 1,
@@ -266,8 +280,9 @@ fn all_fields(
         escape_at,
         escape_label,
         codes,
-    );
+    )?;
     field(
+        rt,
         b"  field(3, LOADER):",
         3,
         Label::LOADER,
@@ -280,8 +295,9 @@ fn all_fields(
         escape_at,
         escape_label,
         codes,
-    );
+    )?;
     field(
+        rt,
         b"  field(3, 3), the name count:",
         3,
         3,
@@ -294,8 +310,9 @@ fn all_fields(
         escape_at,
         escape_label,
         codes,
-    );
+    )?;
     field(
+        rt,
         b"  field(4, 0):",
         4,
         0,
@@ -308,10 +325,11 @@ fn all_fields(
         escape_at,
         escape_label,
         codes,
-    );
+    )
 }
 
 fn all_referents(
+    rt: &impl Print,
     targets: &[u32],
     weak_from: &[u32],
     weak_to: &[u32],
@@ -323,9 +341,10 @@ fn all_referents(
     escape_at: &[u64],
     escape_label: &[u32],
     codes: &[u16],
-) {
-    print::word(b"\n(j) a weak referent, where there is no such field\n");
+) -> io::Result<()> {
+    print::word(rt, b"\n(j) a weak referent, where there is no such field\n")?;
     referent(
+        rt,
         b"  referent(1, 1):",
         1,
         1,
@@ -340,8 +359,9 @@ fn all_referents(
         escape_at,
         escape_label,
         codes,
-    );
+    )?;
     referent(
+        rt,
         b"  referent(0, 0):",
         0,
         0,
@@ -356,8 +376,9 @@ fn all_referents(
         escape_at,
         escape_label,
         codes,
-    );
+    )?;
     referent(
+        rt,
         b"  referent(0, 1):",
         0,
         1,
@@ -372,10 +393,11 @@ fn all_referents(
         escape_at,
         escape_label,
         codes,
-    );
+    )
 }
 
 fn all_labels(
+    rt: &impl Print,
     targets: &[u32],
     bases: &[u64],
     short: &[u16],
@@ -385,9 +407,13 @@ fn all_labels(
     escape_at: &[u64],
     escape_label: &[u32],
     codes: &[u16],
-) {
-    print::word(b"\nexact labels of edges, and of the first edge to a target\n");
+) -> io::Result<()> {
+    print::word(
+        rt,
+        b"\nexact labels of edges, and of the first edge to a target\n",
+    )?;
     exact_label(
+        rt,
         b"  exact_label(2, 0):",
         2,
         0,
@@ -400,8 +426,9 @@ fn all_labels(
         escape_at,
         escape_label,
         codes,
-    );
+    )?;
     exact_label(
+        rt,
         b"  exact_label(3, 1):",
         3,
         1,
@@ -414,8 +441,9 @@ fn all_labels(
         escape_at,
         escape_label,
         codes,
-    );
+    )?;
     exact_label(
+        rt,
         b"  exact_label(3, 2):",
         3,
         2,
@@ -428,8 +456,9 @@ fn all_labels(
         escape_at,
         escape_label,
         codes,
-    );
+    )?;
     label_of(
+        rt,
         b"  label_of(3, 2):",
         3,
         2,
@@ -442,8 +471,9 @@ fn all_labels(
         escape_at,
         escape_label,
         codes,
-    );
+    )?;
     label_of(
+        rt,
         b"  label_of(3, 1):",
         3,
         1,
@@ -456,10 +486,11 @@ fn all_labels(
         escape_at,
         escape_label,
         codes,
-    );
+    )
 }
 
 fn all_edges(
+    rt: &impl Print,
     targets: &[u32],
     bases: &[u64],
     short: &[u16],
@@ -469,11 +500,12 @@ fn all_edges(
     escape_at: &[u64],
     escape_label: &[u32],
     codes: &[u16],
-) {
+) -> io::Result<()> {
     let mut own_targets: [u32; 3] = [9; 3];
     let mut own_labels: [u32; 3] = [9; 3];
-    print::word(b"\nall edges of an object at once, in room for three\n");
+    print::word(rt, b"\nall edges of an object at once, in room for three\n")?;
     edges(
+        rt,
         b"  of object 3:\n",
         3,
         targets,
@@ -487,8 +519,9 @@ fn all_edges(
         codes,
         &mut own_targets,
         &mut own_labels,
-    );
+    )?;
     edges(
+        rt,
         b"  of object 2:\n",
         2,
         targets,
@@ -502,8 +535,9 @@ fn all_edges(
         codes,
         &mut own_targets,
         &mut own_labels,
-    );
+    )?;
     edges(
+        rt,
         b"  of object 4:\n",
         4,
         targets,
@@ -517,9 +551,10 @@ fn all_edges(
         codes,
         &mut own_targets,
         &mut own_labels,
-    );
+    )?;
     let mut one: [u32; 1] = [9; 1];
     edges(
+        rt,
         b"  of object 3, with room for one label:\n",
         3,
         targets,
@@ -533,10 +568,11 @@ fn all_edges(
         codes,
         &mut own_targets,
         &mut one,
-    );
+    )
 }
 
 fn all(
+    rt: &impl Print,
     targets: &[u32],
     weak_from: &[u32],
     weak_to: &[u32],
@@ -548,8 +584,9 @@ fn all(
     escape_at: &[u64],
     escape_label: &[u32],
     codes: &[u16],
-) {
+) -> io::Result<()> {
     all_fields(
+        rt,
         targets,
         bases,
         short,
@@ -559,8 +596,9 @@ fn all(
         escape_at,
         escape_label,
         codes,
-    );
+    )?;
     all_referents(
+        rt,
         targets,
         weak_from,
         weak_to,
@@ -572,8 +610,9 @@ fn all(
         escape_at,
         escape_label,
         codes,
-    );
+    )?;
     all_labels(
+        rt,
         targets,
         bases,
         short,
@@ -583,8 +622,9 @@ fn all(
         escape_at,
         escape_label,
         codes,
-    );
+    )?;
     all_edges(
+        rt,
         targets,
         bases,
         short,
@@ -594,11 +634,12 @@ fn all(
         escape_at,
         escape_label,
         codes,
-    );
+    )
 }
 
-pub(crate) fn show() {
+pub(crate) fn show(rt: &impl Print) -> io::Result<()> {
     all(
+        rt,
         &[1, 0, 0, 2],
         &[1],
         &[0],
@@ -610,5 +651,5 @@ pub(crate) fn show() {
         &[],
         &[],
         &[0, 32769, 2, 3],
-    );
+    )
 }
