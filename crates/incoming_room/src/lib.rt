@@ -1,5 +1,6 @@
 // The two ends of inverting: what can be refused before an entry is laid, and what is cleared behind the answer. `incoming_stages` passes these on.
 #![tactic(auto)]
+
 ghost use Rattle.std.specs.Prelude.{◌≡◌};
 ghost use Rattle.columns.specs.Columns.{kept};
 ghost use Rattle.rules.specs.Types.{inverted_says};
