@@ -1,5 +1,6 @@
 // Who points here: the questions on the incoming side of a graph, over the used parts of its columns, writing nothing. Objects are counted by the short offsets.
 #![tactic(auto)]
+
 ghost use Rattle.std.specs.Prelude.{◌≡◌, ◌≤◌, length};
 ghost use Rattle.columns.specs.Loans.{now_of};
 ghost use Rattle.rules.specs.Types.{span_says, edge_count_says, entry_says};
