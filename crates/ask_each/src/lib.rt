@@ -2,6 +2,7 @@
 // those of another. Codes are compared with the label's own, where there is one; whatever leaves a doubt is asked as a single question.
 // The code of a label, the spans and the rows are found, told and written in crates of their own.
 #![tactic(auto)]
+
 mod codes;
 
 ghost use Rattle.std.specs.Prelude.{◌≡◌, ◌≤◌, length};
