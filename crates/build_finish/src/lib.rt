@@ -1,5 +1,6 @@
 // The second half of a build: what the first half left is coded, and then every column is kept or cleared.
 #![tactic(auto)]
+
 ghost use Rattle.std.specs.Prelude.{◌≡◌, ◌+◌, ◌≤◌, min};
 ghost use Rattle.rules.specs.Types.{built_says};
 ghost use Rattle.columns.specs.Loans.{now_of, old_of, new_of};
