@@ -1,5 +1,6 @@
 // Of the columns handed to `from_parts`: whether one label is at fault, and the first fault of the targets. `check_parts` tests by these.
 #![tactic(auto)]
+
 ghost use Rattle.std.specs.Prelude.{◌≡◌, take};
 ghost use Rattle.check_ids.specs.Copying.{fault_says};
 ghost use Rattle.rules.specs.Parts.{bad_targets};
