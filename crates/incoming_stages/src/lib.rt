@@ -1,6 +1,7 @@
 // The stages of inverting that know no entry: what has no room, the offsets coded, and the end. A stage that is handed a refusal hands it on.
 // The first and the last stand in a crate of their own, and have their names here.
 #![tactic(auto)]
+
 ghost use Rattle.std.specs.Prelude.{◌≡◌, ◌+◌, ◌-◌, ◌<◌, min, length};
 ghost use Rattle.columns.specs.Columns.{accepts};
 ghost use Rattle.columns.specs.Loans.{now_of};
