@@ -1,5 +1,6 @@
 // The lowest object that cannot be read back, in most cases by quick tests; on the way the targets of all edges are counted.
 #![tactic(auto)]
+
 ghost use Rattle.std.specs.Prelude.{◌≡◌, ◌≤◌, length};
 ghost use Rattle.columns.specs.Columns.{zeros};
 ghost use Rattle.columns.specs.Loans.{now_of};
