@@ -47,7 +47,17 @@ step_copied-s-requires c =
     (static_table (λ x. x.now) a.static_names a.static_types a.static_values)
     (copied_route (λ x. x.now) a.codes a.escape_places a.escape_ids a.base a.starts)
     a.policy in
-    let o = object_now X c.loop-k.invariant.1.0 (c.requires.fact.objects c.loop-k.k c.loop-k-test.true) in record { rises = c.requires.rises; o_bound = o.few; o_in_bounds = (o.kind, o.class, o.count, o.part.start, o.offset); slots_in = o.part.slots; o_bound_2 = o.part.elements; statics_in = o.statics; o_in_bounds_2 = o.loader; fact = ready_now X c.loop-k.invariant.1.0 c.requires.fact.room c.loop-k-test.true c.loop-k.invariant.1.1 }
+    let o = object_now X c.loop-k.invariant.1.0 (c.requires.fact.objects c.loop-k.k c.loop-k-test.true) in
+    record {
+      rises = c.requires.rises;
+      o_bound = o.few;
+      o_in_bounds = (o.kind, o.class, o.count, o.part.start, o.offset);
+      slots_in = o.part.slots;
+      o_bound_2 = o.part.elements;
+      statics_in = o.statics;
+      o_in_bounds_2 = o.loader;
+      fact = ready_now X c.loop-k.invariant.1.0 c.requires.fact.room c.loop-k-test.true c.loop-k.invariant.1.1;
+    }
 
 pub overflow_add-k : goal.overflow_add-k
 overflow_add-k c = omega (arith, c.loop-k-test.true, c.ranges.count.fits)
