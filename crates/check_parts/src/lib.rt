@@ -1,5 +1,6 @@
 // The checks of the columns handed to `from_parts`.
 #![tactic(auto)]
+
 pub mod edges;
 pub mod ends;
 pub mod judge;
