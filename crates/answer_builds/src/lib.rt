@@ -1,5 +1,6 @@
 // Answers of the builds and of filling rows as numbers, told as those of the questions (`answer_numbers`).
 #![tactic(auto)]
+
 ghost use Rattle.std.specs.Prelude.{◌≡◌};
 ghost use Rattle.rules.specs.Types.{refusal_says, built_says};
 ghost use Rattle.slot_rows.specs.Rows.{filled_says};
