@@ -54,7 +54,7 @@ returns c =
     let said : checked_says c.judge_copied-tested.result ≡ first_of (faults_before input) (0 ∷ held_codes c.args.codes.now ∷ []) =
     c.judge_copied-tested.ensures.result_value ∙ ap (λ (fs : List (List ℕ)). first_of fs (0 ∷ held_codes c.args.codes.now ∷ [])) (before_policy input no_policy) in
     let same-places : accepts (checked_says c.judge_copied-tested.result) ≡ true → let x = input in let k = x.schema.classes in
-        place_count x ≡ copied_places x.objects.ids x.objects.kinds x.objects.classes x.objects.lengths k.ids k.loaders k.dumped k.kinds k.slot_start k.slot_end k.static_start k.static_end x.schema.slots.weak x.schema.statics.types x.schema.statics.values c.args.codes.now c.args.starts.now x.policy =
+    place_count x ≡ copied_places x.objects.ids x.objects.kinds x.objects.classes x.objects.lengths k.ids k.loaders k.dumped k.kinds k.slot_start k.slot_end k.static_start k.static_end x.schema.slots.weak x.schema.statics.types x.schema.statics.values c.args.codes.now c.args.starts.now x.policy =
     λ ok. copied_counted input (sound input _ said ok) _ refl in
     let answer : checked_says c.count_copied-answer.result ≡ first_of (faults input) (0 ∷ told_for input (checked_says c.judge_copied-tested.result) c.count_copied-answer.ensures.told ∷ []) =
     joined input _ _ _ _ said same-places
