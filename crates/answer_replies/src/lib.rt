@@ -1,5 +1,6 @@
 // Answers in one number, for a host that reads them from a register.
 #![tactic(auto)]
+
 ghost use Rattle.std.specs.Prelude.{◌≡◌, [], ◌∷◌};
 ghost use Rattle.rules.specs.Types.{span_says, label_of_says, field_says, referent_says};
 ghost use Rattle.answer_replies.specs.Reply.{span_number, reply_of};
