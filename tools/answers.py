@@ -339,6 +339,8 @@ class Turn:
             callee = self.callee.get(norm(head))
             if parts[1:2] == ["kept"] and parts[2:] and parts[2].isdigit():
                 parts[1] = "auto"
+            if parts[1:2] == ["last"] and parts[2:] and parts[2].isdigit():
+                parts[1] = "new"
             parts[0] = "\x01" + self.steps[norm(head)]  # so that a second pass knows it
             if parts[1:2] in (["auto"], ["new"]) and parts[2:] and parts[2].isdigit() and callee in self.names["params"]:
                 ones = 0
