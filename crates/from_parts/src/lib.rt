@@ -1,5 +1,6 @@
 // `from_parts`: a plain graph handed over by its columns is checked, and its offsets and labels are coded.
 #![tactic(auto)]
+
 ghost use Rattle.std.specs.Prelude.{◌≡◌};
 ghost use Rattle.rules.specs.Types.{checked_says, built_says};
 ghost use Rattle.rules.specs.Built.{parts_left};
