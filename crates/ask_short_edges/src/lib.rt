@@ -1,6 +1,7 @@
 // All edges of an object by the short columns alone, without the long offsets and the escapes, which few objects need. The answer is one number: 0 says only
 // that the whole question is to be asked (`ask_edges`). So a host that asks here first lends few columns.
 #![tactic(auto)]
+
 ghost use Rattle.std.specs.Prelude.{◌≡◌, ◌-◌, ◌≤◌, length};
 ghost use Rattle.columns.specs.Columns.{cleared};
 ghost use Rattle.columns.specs.Loans.{now_of};
