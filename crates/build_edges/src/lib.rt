@@ -1,6 +1,7 @@
 // The first half of a build: the checks, the needs, ROOM 1 to 4, and the edges. A wide function is a straight line of stages; a stage that is handed a
 // refusal hands it on.
 #![tactic(auto)]
+
 ghost use Rattle.std.specs.Prelude.{◌≡◌, true, ◌^◌, ◌≤◌, min, length};
 ghost use Rattle.columns.specs.Columns.{accepts};
 ghost use Rattle.columns.specs.Loans.{now_of};
