@@ -1,5 +1,6 @@
 // A build by the copied route: the first half lays the edges, the second codes offsets and labels, and then every column is kept or cleared.
 #![tactic(auto)]
+
 ghost use Rattle.std.specs.Prelude.{◌≡◌};
 ghost use Rattle.rules.specs.Types.{built_says};
 ghost use Rattle.rules.specs.Built.{build_left};
