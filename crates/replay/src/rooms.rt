@@ -76,7 +76,8 @@ fn lend<'a>(
         &mut codes[..codes_room],
         &mut counting[..counting_room],
         &mut ranking[..ranking_room],
-    )
+    )?;
+    Ok(())
 }
 
 // Which rooms are lent, where the case has several sets of them.
