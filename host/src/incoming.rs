@@ -53,7 +53,7 @@ impl<'a> Incoming<'a> {
         self.graph
     }
 
-    /// How many edges go to `object`. 0 says that no object holds it: of a graph that was built this is the theorem `nobody-holds`, over the
+    /// How many edges go to `object`. 0 says that no object holds it: of a graph that was built this is the theorem `nobody_holds`, over the
     /// edges that the rules give each object of the input. Weak pairs are no entries, so an object with in-degree 0 may still be held weakly,
     /// and be a root.
     pub fn in_degree(&self, object: u32) -> Result<usize, Refusal> {

@@ -30,7 +30,7 @@ code_fault code base id =
     cond (eqb code 0) false
     (cond (eqb code escaped_code) (eqb id 0) (any_of (leb (2 ^ 64) (base + 8 * (code - 1)) ∷ eqb (base + 8 * (code - 1)) 0 ∷ [])))
 
--- how many escapes, from the first, are without fault (rule `bad_escape`), one position on: laws `walk_start`, `Walk-more`
+-- how many escapes, from the first, are without fault (rule `bad_escape`), one position on: laws `walk_start`, `walk_more`
 unfoldable pub good_on : ℕ → ℕ → Bool → ℕ → ℕ
 good_on good rows row code = cond (all_of (row ∷ eqb code escaped_code ∷ eqb good rows ∷ [])) (good + 1) good
 

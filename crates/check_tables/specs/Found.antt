@@ -25,7 +25,7 @@ dumped_at classIds dumped id b = is_dumped (dumped ! b) (classIds ! b) id
 unfoldable pub find_fault : Input → ℕ → ℕ → Bool
 find_fault x o c = all_of (ltb o (object_count x) ∷ any_of (ltb (x.objects.kinds ! o) 3 ∷ any (found_at x o) c ∷ []) ∷ [])
 
--- the same by marks (law `tells`), and the marks with one more (law `Marked-next`)
+-- the same by marks (law `tells`), and the marks with one more (law `marked_next`)
 unfoldable pub mark_fault : List ℕ → List ℕ → ℕ → Bool
 mark_fault kinds w o = all_of (ltb o (length kinds) ∷ any_of (ltb (kinds ! o) 3 ∷ ltb 0 (w ! (o + 1)) ∷ []) ∷ [])
 

@@ -55,7 +55,7 @@ locate offsets e (suc m) a b = go (lt_or_ge e (offsets ! m)) (locate offsets e m
     go (inl l) ih = let r = ih l in (r.0, omega (arith, r.1), r.2, r.3)
     go (inr g) ih = (m, omega arith, g, b)
 
--- PARTS: "labels below the name count, `loader_label` or elements"
+-- PARTS: "labels below the name count, `LOADER` or elements"
 named-label : (names l : ℕ) → is_named names l ≡ true → (l < names) ⊎ ((l ≡ loader_label) ⊎ (array_element_label ≤ l))
 unfolding any_of
 named-label names l e = go (ltb l names) refl (leb loader_label l) refl (each_of _ e 0)

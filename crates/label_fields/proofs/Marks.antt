@@ -89,7 +89,7 @@ module _ (names i : ℕ) (few : names ≤ loader_label) (h : i ≤ names) where
       go false none = refl
       go false (some j) = refl
 
--- "Rising, then `loader_label`": the labels marked in a table of zeros are those that occur.
+-- "Rising, then `LOADER`": the labels marked in a table of zeros are those that occur.
 pub marked_occurring : (names : ℕ) (t ls : List ℕ) → names ≤ loader_label → names + 1 ≤ length t → ((i : ℕ) → i ≤ names → t ! i ≡ 0) → marked_labels names (mark_labels names t ls) ≡ occurring names ls
 unfolding marked_labels occurring
 marked_occurring names t ls few long zero-at =

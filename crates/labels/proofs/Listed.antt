@@ -24,7 +24,7 @@ pub named_by_lem : (s : Schema)
 unfolding named named_by
 named_by_lem s = refl
 
--- "Up to 32,767 fields, `loader_label` counted, all have codes. With more, .. the first 32,767 get codes."
+-- "Up to 32,767 fields, `LOADER` counted, all have codes. With more, .. the first 32,767 get codes."
 module _ (names : ℕ) (ns labels : List ℕ) where
   pub fields-listed : length (listed names ns) ≤ 32767 → fields_of names ns labels ≡ listed names ns
   unfolding fields_of

@@ -43,7 +43,7 @@ abbrev pub name_columns : {A : Type 0} → (A → List ℕ) → A → A → A �
 name_columns read slot_start slot_end static_start static_end labels names types =
     naming (read slot_start) (read slot_end) (read static_start) (read static_end) (read labels) (read names) (read types)
 
--- The rule `named`, by the law `Named-by`.
+-- The rule `named`, by the law `named_by_lem`.
 unfoldable pub named_by : Naming → ℕ → List ℕ
 named_by s m =
     collect

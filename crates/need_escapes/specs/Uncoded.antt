@@ -7,7 +7,7 @@ use Rattle.rules.specs.Types.{loader_label, array_element_label}
 use Rattle.rules.specs.Labels.{Coded}
 use Rattle.labels.specs.Coding.{table_place}
 
--- "Labels below the name count, `loader_label` or elements."
+-- "Labels below the name count, `LOADER` or elements."
 abbrev pub KnownLabels : ℕ → List ℕ → Type 0
 KnownLabels names labels = (e : ℕ) → e < length labels → (labels ! e < names) ⊎ ((labels ! e ≡ loader_label) ⊎ (array_element_label ≤ labels ! e))
 

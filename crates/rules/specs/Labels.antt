@@ -16,7 +16,7 @@ named s =
 unfoldable pub occurring : ℕ → List ℕ → List ℕ
 occurring n ls = places (λ l. found (find ls l)) n ++ cond (found (find ls loader_label)) (loader_label ∷ []) []
 
--- "Listed fields: .. rising, then `loader_label`."
+-- "Listed fields: .. rising, then `LOADER`."
 unfoldable pub listed : ℕ → List ℕ → List ℕ
 listed n names = occurring n (loader_label ∷ names)
 
@@ -24,7 +24,7 @@ listed n names = occurring n (loader_label ∷ names)
 unfoldable pub ranked : ℕ → List ℕ → List ℕ
 ranked n labels = sort (λ a b. leb (count b labels) (count a labels)) (occurring n labels)
 
--- "Up to 32,767 fields, `loader_label` counted, all have codes. With more, .. the first 32,767 get codes." The code of a field is its place here.
+-- "Up to 32,767 fields, `LOADER` counted, all have codes. With more, .. the first 32,767 get codes." The code of a field is its place here.
 unfoldable pub fields_of : ℕ → List ℕ → List ℕ → List ℕ
 fields_of n names labels = cond (leb (length (listed n names)) 32767) (listed n names) (take 32767 (ranked n labels))
 

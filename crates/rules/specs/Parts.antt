@@ -26,7 +26,7 @@ bad_offsets offsets edges =
     ++ places (below offsets) (length offsets)
     ++ cond (eqb (offsets ! last) edges) [] (last ∷ [])
 
--- Column 2. "Labels below the name count, `loader_label` or elements." An index has 31 bits, so every label is below 2^32.
+-- Column 2. "Labels below the name count, `LOADER` or elements." An index has 31 bits, so every label is below 2^32.
 abbrev pub is_named : ℕ → ℕ → Bool
 is_named names l = all_of (any_of (ltb l names ∷ leb loader_label l ∷ []) ∷ ltb l 4294967296 ∷ [])
 

@@ -32,7 +32,7 @@ use Rattle.rules.specs.declared.Inverted.TheVariants as Inverted
 use Rattle.rules.specs.declared.Entry.{Entry}
 use Rattle.rules.specs.declared.Entry.TheVariants as Entry
 
--- "`loader_label` is 2,147,483,647 and `ARRAY_ELEMENT` is 2,147,483,648."
+-- "`LOADER` is 2,147,483,647 and `ARRAY_ELEMENT` is 2,147,483,648."
 abbrev pub loader_label : ℕ
 loader_label = 2147483647
 

@@ -33,7 +33,7 @@ unfoldable pub short_back : List ℕ → ℕ → ℕ → List ℕ
 short_back bs s i =
     cond (ltb (i / 256) (length bs)) (cond (ltb (bs ! (i / 256) + s) (2 ^ 64)) (0 ∷ (bs ! (i / 256) + s) ∷ []) (12 ∷ i ∷ [])) (12 ∷ i ∷ [])
 
--- What `offset_at_lem` answers: "index past the end panics: INDEX"; the number; or COLUMNS.
+-- What `offset_at` answers: "index past the end panics: INDEX"; the number; or COLUMNS.
 unfoldable pub read_back : Blocked → ℕ → List ℕ
 read_back b i =
     cond (ltb i (length b.short))
