@@ -10,7 +10,7 @@ use std::io;
 
 const ROWS: usize = 8;
 
-// Two rows lent as a slice: proved by a walk, as no covered function can hold a reference to structs.
+// Two rows lent as a slice of structs.
 fn fill_two(
     first: SlotRow,
     second: SlotRow,
