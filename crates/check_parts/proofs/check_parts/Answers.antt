@@ -1,6 +1,7 @@
 -- `check_parts::check_parts` meets its contract: test by test. Assumes nothing.
 use mathlib.Core.Path.{◌≡◌, sym, ap, ◌∙◌}
 use Prim.Native.Nat.{ℕ}
+use native.Mathlib.Omega.{arith}
 use Rattle.columns.specs.Lists.{first_place}
 use Rattle.rules.specs.Input.{Schema, class_count}
 use Rattle.rules.specs.Tables.{class_table, slot_table, static_table, schema_of}
@@ -106,7 +107,7 @@ returns-then-labels-gt268435456 c =
     let s = schemaFor in
     c.first_class-class.ensures ∙ ap (first_place (bad_class s)) (schema_dumped s (uneven ∙ c.if-schema_lengths.false)) in
     handed-places schemaFor partsFor (uneven ∙ c.if-schema_lengths.false) (sym c.differ.ensures ∙ c.if-differ.false) (over ∙ c.if-over_limit.false)
-    class c.if-class-class_ids.false c.if-labels-gt268435456.true
+    class (omega arith) c.if-labels-gt268435456.true
 
 pub judge_parts-requires : goal.judge_parts-requires
 unfolding schema_lengths
