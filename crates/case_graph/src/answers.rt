@@ -117,6 +117,8 @@ fn show_label_of(rt: &impl Print, a: LabelOf) -> io::Result<()> {
     }
 }
 
+// The line of each object. Its long arrays need the stack only while it runs.
+#[inline(never)]
 fn objects(
     rt: &impl Print,
     targets: &[u32],

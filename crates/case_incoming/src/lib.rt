@@ -11,7 +11,8 @@ use case_text::column::{used_u16, used_u32, used_u64};
 use rules::Counts;
 use std::io;
 
-// The turns on used parts. There is one place that runs them, so that their long arrays need the stack once.
+// The turns on used parts. There is one place that runs them, so that their long arrays need the stack once, and only while they run.
+#[inline(never)]
 fn turns(
     rt: &impl Print,
     objects: usize,
