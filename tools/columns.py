@@ -27,11 +27,11 @@ bases short long_at long_value edge_codes targets fields escape_at escape_label 
 INCOMING = "sources places in_bases in_short in_long_at in_long_value working".split()
 # A reader holds target and code parts (document 01).
 READER = "targets codes fields escape_at escape_label".split()
-# What leaf calls name for themselves: any numbers, values to be coded, a part of a column, rows, the answer, one object's
+# What leaf calls name for themselves: any numbers, values to be coded, a column or a part of one, rows, the answer, one object's
 # edges, which a question writes, and a list of objects that is asked, with its marks.
 OWN = """
 s d xs values marks from to rows from_offsets from_labels from_weak weak answer own_targets own_labels
-objects found
+objects found column
 """.split()
 
 PROGRAMS = {"print", "case_text", "case_graph", "case_incoming", "case_each", "replay", "show_cases", "show_worked"}
@@ -43,7 +43,7 @@ def order_of(path):
         return READER
     if crate == "inverse" or crate.startswith("incoming") or path.name == "holders.rt":
         return ASK + INCOMING
-    if crate.startswith("ask_") or path.name in ("questions.rt", "read.rt"):
+    if crate.startswith("ask_") or path.name in ("questions.rt", "read.rt", "lent.rt"):
         return ASK
     return PARTS if "parts" in crate or path.name == "parts.rt" else BUILD
 

@@ -1,13 +1,13 @@
 // Answers of the builds and of filling rows as numbers, told as those of the questions (`answer_numbers`).
-#![tactic(auto)]
+#![tactic(auto, unfolding(answer_numbers::specs::Told::told, columns::specs::Columns::padded, columns::specs::Columns::over))]
 
 ghost use Rattle.std.specs.Prelude.{◌≡◌};
 ghost use Rattle.rules.specs.Types.{refusal_says, built_says};
 ghost use Rattle.slot_rows.specs.Rows.{filled_says};
 ghost use Rattle.answer_numbers.specs.Told.{told};
 
-use rules::{Built, Refusal};
-use slot_rows::Filled;
+use rules::{Counts, Refusal};
+use slot_rows::FillError;
 
 fn refusal(f: Refusal) -> [u64; 9]
     ensures { result ≡ told 9 (refusal_says f) }
@@ -39,11 +39,11 @@ fn refusal(f: Refusal) -> [u64; 9]
 }
 
 // What a build says: the used lengths and the dangling count, or the refusal.
-pub fn built(b: Built) -> [u64; 9]
+pub fn built(b: Result<Counts, Refusal>) -> [u64; 9]
     ensures { result ≡ told 9 (built_says b) }
 {
     match b {
-        Built::Done(c) => [
+        Ok(c) => [
             8,
             0,
             c.edges as u64,
@@ -54,15 +54,15 @@ pub fn built(b: Built) -> [u64; 9]
             c.escapes as u64,
             c.dangling,
         ],
-        Built::Refused(f) => refusal(f),
+        Err(f) => refusal(f),
     }
 }
 
-pub fn filled(f: Filled) -> [u64; 4]
+pub fn filled(f: Result<usize, FillError>) -> [u64; 4]
     ensures { result ≡ told 4 (filled_says f) }
 {
     match f {
-        Filled::Done(rows) => [2, 0, rows as u64, 0],
-        Filled::Room(buffer) => [2, 9, buffer as u64, 0],
+        Ok(rows) => [2, 0, rows as u64, 0],
+        Err(FillError::Room(buffer)) => [2, 9, buffer as u64, 0],
     }
 }

@@ -1,19 +1,18 @@
 // Answers in one number, for a host that reads them from a register.
-#![tactic(auto)]
+#![tactic(auto, unfolding(crate::specs::Reply::reply_of, columns::specs::Columns::accepts))]
 
 ghost use Rattle.std.specs.Prelude.{◌≡◌, [], ◌∷◌};
-ghost use Rattle.rules.specs.Types.{span_says, label_of_says, field_says, referent_says};
+ghost use Rattle.rules.specs.Types.{span_says, label_of_says, field_says};
 ghost use Rattle.answer_replies.specs.Reply.{span_number, reply_of};
 
-use rules::{Field, LabelOf, Referent, Span};
+use rules::{Label, ReadError, Span};
 
-pub fn span_number(a: Span) -> u64
+pub fn span_number(a: Result<Span, ReadError>) -> u64
     ensures { result ≡ span_number (span_says a) }
 {
     match a {
-        Span::Edges { start, end } => packed(start, end),
-        Span::Index(_) => 0,
-        Span::Columns(_) => 0,
+        Ok(at) => packed(at.start, at.end),
+        Err(_) => 0,
     }
 }
 
@@ -29,35 +28,22 @@ fn packed(start: usize, end: usize) -> u64
     start as u64 * 4294967296 + end as u64 + 1
 }
 
-pub fn field_reply(a: Field) -> u64
+// The target of a field or of a referent.
+pub fn target_reply(a: Result<Option<u32>, ReadError>) -> u64
     ensures { result ≡ reply_of (field_says a) }
 {
     match a {
-        Field::Target(t) => columns::wide(t) + 2,
-        Field::Nothing => 1,
-        Field::Index(_) => 0,
-        Field::Columns(_) => 0,
+        Ok(Some(target)) => u64::from(target) + 2,
+        Ok(None) => 1,
+        Err(_) => 0,
     }
 }
 
-pub fn referent_reply(a: Referent) -> u64
-    ensures { result ≡ reply_of (referent_says a) }
-{
-    match a {
-        Referent::Target(t) => columns::wide(t) + 2,
-        Referent::Nothing => 1,
-        Referent::Index(_) => 0,
-        Referent::Columns(_) => 0,
-    }
-}
-
-pub fn label_reply(a: LabelOf) -> u64
+pub fn label_reply(a: Result<Option<Label>, ReadError>) -> u64
     ensures { result ≡ reply_of (label_of_says a) }
 {
-    match a {
-        LabelOf::Is(l) => columns::wide(l.0) + 2,
-        LabelOf::Nothing => 1,
-        LabelOf::Index(_) => 0,
-        LabelOf::Columns(_) => 0,
-    }
+    target_reply(match a {
+        Ok(found) => Ok(found.map(|l| l.0)),
+        Err(e) => Err(e),
+    })
 }

@@ -1,6 +1,6 @@
 -- THE QUESTIONS JOINED TO THE BUILDS. Of what an accepted build left, and of what an accepted `from_parts` left, each question's answer over the used parts is the
 -- same question on the plain edges; and so is each reply in one number that is not 0. No premise but acceptance. Assumes nothing.
-use Prim.Native.Nat.{ℕ, suc, ◌+◌, ◌-◌, ◌*◌, ◌≤◌, ◌<◌}
+use Prim.Native.Nat.{ℕ, suc, ◌+◌, ◌-◌, ◌*◌, ◌<◌}
 use native.Mathlib.Omega.{arith}
 use mathlib.Core.Path.{◌≡◌, refl, sym, ap, ◌∙◌}
 use mathlib.Core.Bool.{Bool, true, false, cond, true≢false}
@@ -28,7 +28,7 @@ use Rattle.ask_span.proofs.Built.{span-built, count-built, targets-built, weak-b
 use Rattle.ask_span.proofs.WeakRows.{weak-targets-built, weak-targets-kept}
 use Rattle.ask_label.proofs.Built.{coarse-built, exact_built, label-built, coarse-kept, exact_kept, label_kept}
 use Rattle.ask_field.proofs.Built.{field-built, referent-built, field-kept, referent-kept}
-use Rattle.ask_reader.specs.declared.Step.TheVariants as Step
+use Rattle.ask_reader.specs.Read.{stored}
 use Rattle.ask_edges.proofs.InOrder.{targets_are, codes_are, edge_in_order, end_in_order}
 use Rattle.ask_edges.proofs.Built.{edges-built, edges-kept}
 use Rattle.ask_short.proofs.Whole.{span-whole, label_called}
@@ -56,7 +56,7 @@ module _ (c : Columns) (n o start end : ℕ) (es : List Edge) (said : span_in c 
     codes_of = codes_are c o at;
     edge = λ k l.
         let within : k < end - start = omega (arith, many) in
-        edge_in_order c o at k within ∙ ap (λ (t : ℕ). Step.Edge t (c.labels.codes ! (start + k))) (target_at_lem k within);
+        edge_in_order c o at k within ∙ ap (λ (t : ℕ). stored t (c.labels.codes ! (start + k))) (target_at_lem k within);
     ends = λ k l. end_in_order c o at k (omega (arith, many));
   }
 

@@ -1,7 +1,7 @@
 -- What the questions answer where the columns hold a graph: each call's own answer, on the left, is the same question on the plain edges, on the right.
 -- c are the columns, of n objects. The object asked is o. Its edges are es, from `start` up to `end`. Its weak targets are ws, and vs as the rows hold them.
 -- Assumes nothing.
-use Rattle.std.specs.Prelude.{ℕ, suc, ◌+◌, ◌≤◌, ◌<◌, ◌≡◌, false, List, [], ◌∷◌, map, eqb, length}
+use Rattle.std.specs.Prelude.{ℕ, suc, ◌+◌, ◌≤◌, ◌<◌, ◌≡◌, false, List, [], ◌∷◌, None, map, eqb, length}
 use Rattle.columns.specs.Lists.{◌!◌, part}
 use Rattle.columns.specs.Ranks.{rank}
 use Rattle.rules.specs.Edges.{Edge}
@@ -10,7 +10,7 @@ use Rattle.ask_span.specs.Reading.{span_of, count_of, span_part, weak_rows_of}
 use Rattle.ask_span.specs.Graph.{span_in, strong}
 use Rattle.ask_label.specs.Labelled.{coarse_at, ExactAt, LabelTo}
 use Rattle.ask_field.specs.Sought.{field_found, referent_found}
-use Rattle.ask_reader.specs.declared.Step.TheVariants as Step
+use Rattle.ask_reader.specs.Read.{stored}
 use Rattle.ask_edges.specs.Read.{stands_in}
 use Rattle.ask_edges.specs.Object.{edges_found}
 use Rattle.ask_short.specs.Lean.{shortly, leanly, label_found}
@@ -19,8 +19,8 @@ use Rattle.answer_replies.specs.Reply.{span_number, reply_of}
 -- The reader over the parts of an object that exists: at position k stand the target and the code of edge k, and the end comes behind the last edge.
 pub record InOrder (c : Columns) (o start end : ℕ) (es : List Edge) : Type 0 where
   pub codes_of : span_part (span_in c o) c.labels.codes ≡ part c.labels.codes start end
-  pub edge : (k : ℕ) → k < length es → stands_in c o k ≡ Step.Edge (map (λ (e : Edge). e.target) es ! k) (c.labels.codes ! (start + k))
-  pub ends : (k : ℕ) → length es ≤ k → stands_in c o k ≡ Step.End
+  pub edge : (k : ℕ) → k < length es → stands_in c o k ≡ stored (map (λ (e : Edge). e.target) es ! k) (c.labels.codes ! (start + k))
+  pub ends : (k : ℕ) → length es ≤ k → stands_in c o k ≡ None
 
 -- The whole questions. Those about edges are not lent the weak pairs (`strong`).
 pub record Answers (c : Columns) (n o start end : ℕ) (es : List Edge) (ws vs : List ℕ) : Type 0 where

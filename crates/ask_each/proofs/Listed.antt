@@ -19,9 +19,8 @@ use Rattle.store.specs.Blocked.{read_back}
 use Rattle.rules.specs.Questions.{Columns}
 use Rattle.rules.specs.Each.{target_said, found_said, EachLeft, first_refused, each_says, each_left}
 use Rattle.ask_span.specs.Reading.{ended, span_of}
-use Rattle.ask_field.specs.Sought.{sought_in, sought_target, field_found}
-use Rattle.ask_field.specs.declared.Sought.{Sought}
-use Rattle.ask_field.specs.declared.Sought.TheVariants.{At, Nothing, Bad}
+use Rattle.ask_field.specs.Sought.{Sought, sought_in, sought_target, field_found}
+use Rattle.std.specs.Prelude.{None, Some, Ok, Err}
 use Rattle.ask_each.specs.Listed.{asks, single, refused_at}
 
 -- questions that answer alike leave the same
@@ -108,9 +107,9 @@ Shape o s = ((t : ℕ) × (s ≡ 0 ∷ t ∷ [])) ⊎ ((s ≡ 0 ∷ []) ⊎ ((k 
 
 module _ (c : Columns) (o l : ℕ) where
   sought_shape : (e : ℕ) (x : Sought) → Shape o (sought_target c.targets e o x)
-  sought_shape e (At k) = inl (c.targets ! (e + k), refl)
-  sought_shape e Nothing = inr (inl refl)
-  sought_shape e Bad = inr (inr (12, refl, refl))
+  sought_shape e (Ok (Some k)) = inl (c.targets ! (e + k), refl)
+  sought_shape e (Ok None) = inr (inl refl)
+  sought_shape e (Err u) = inr (inr (12, refl, refl))
 
   field_shape : Shape o (field_found c o l)
   unfolding field_found span_of ended accepts

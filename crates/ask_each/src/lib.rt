@@ -6,27 +6,20 @@
 mod codes;
 
 ghost use Rattle.std.specs.Prelude.{◌≡◌, ◌≤◌, length};
-ghost use Rattle.columns.specs.Loans.{now_of};
+ghost use Rattle.store_read.specs.Back.{blocked_in};
 ghost use Rattle.rules.specs.Types.{each_field_says};
 ghost use Rattle.rules.specs.Each.{each_left};
-ghost use Rattle.ask_span.specs.Graph.{edge_columns};
-ghost use Rattle.ask_short.specs.Lean.{short_of};
+ghost use Rattle.ask_span.specs.Graph.{strong_in};
+ghost use Rattle.ask_short.specs.Lean.{shortly};
 ghost use Rattle.ask_each.specs.Listed.{Sole, Told, Asking, Onward, asks, Asked, left_each};
 
 use ask_each_codes::SoleCode;
-use rules::EachField;
+use ask_span::Strong;
+use rules::ListError;
 
 // Answers by the codes from a position on, up to the first that leaves a doubt: its position.
 fn run(
-    bases: &[u64],
-    short: &[u16],
-    long_at: &[u32],
-    long_value: &[u64],
-    edge_codes: &[u16],
-    targets: &[u32],
-    fields: &[u32],
-    escape_at: &[u64],
-    escape_label: &[u32],
+    graph: Strong<'_>,
     objects: &[u32],
     label: u32,
     sole: SoleCode,
@@ -35,87 +28,43 @@ fn run(
     found: &mut [u8],
 ) -> usize
     requires objects_in_bounds { (length objects.now ≤ length own_targets.old) × (length objects.now ≤ length found.old) }
-    requires sole { Sole fields.now label sole.code sole.most }
-    requires fact { let graph = edge_columns (λ x. x.now) bases short long_at long_value edge_codes targets fields escape_at escape_label in
-        Asking graph label objects.now own_targets.old found.old from }
-    ensures { let graph = edge_columns now_of bases short long_at long_value edge_codes targets fields escape_at escape_label in
-        Onward graph label objects.now from own_targets.old found.old own_targets.new found.new result }
+    requires sole { Sole graph.labels.fields.now label sole.code sole.most }
+    requires fact { Asking (strong_in graph) label objects.now own_targets.old found.old from }
+    ensures { Onward (strong_in graph.entry) label objects.now from own_targets.old found.old own_targets.new found.new result }
 {
-    let mut i = from;
-    while i < objects.len() {
+    for i in from..objects.len() {
         let start = own_targets[i] as usize;
         let count = found[i] as usize;
         let object = objects[i] as usize;
-        let answer = codes::by_codes(
-            bases, short, edge_codes, targets, fields, object, label, sole, start, count,
-        );
+        let answer = codes::by_codes(graph, object, label, sole, start, count);
         let done = ask_each_rows::row(answer, i, own_targets, found);
-        if done {
-            i += 1;
-        } else {
+        if !done {
             return i;
         }
     }
-    i
+    objects.len()
 }
 
 // The answers of the list in order, over the spans: by the codes, or else as the single question, up to the first that is refused.
 fn ask(
-    bases: &[u64],
-    short: &[u16],
-    long_at: &[u32],
-    long_value: &[u64],
-    edge_codes: &[u16],
-    targets: &[u32],
-    fields: &[u32],
-    escape_at: &[u64],
-    escape_label: &[u32],
+    graph: Strong<'_>,
     objects: &[u32],
     label: u32,
     sole: SoleCode,
     own_targets: &mut [u32],
     found: &mut [u8],
-) -> EachField
+) -> Result<usize, ListError>
     requires objects_in_bounds { (length objects.now ≤ length own_targets.old) × (length objects.now ≤ length found.old) }
-    requires sole { Sole fields.now label sole.code sole.most }
-    requires told { Told (short_of bases.now short.now) (length edge_codes.now) (length targets.now) objects.now own_targets.old found.old 0 (length objects.now) }
-    ensures { let graph = edge_columns now_of bases short long_at long_value edge_codes targets fields escape_at escape_label in
-        Asked (asks graph label) objects.now (each_field_says result) own_targets.old found.old own_targets.new found.new }
+    requires sole { Sole graph.labels.fields.now label sole.code sole.most }
+    requires told { Told (shortly (blocked_in graph.offsets)) (length graph.labels.codes.now) (length graph.targets.now) objects.now own_targets.old found.old 0 (length objects.now) }
+    ensures { Asked (asks (strong_in graph.entry) label) objects.now (each_field_says result) own_targets.old found.old own_targets.new found.new }
 {
     let mut i = 0;
     while i < objects.len() {
-        let at = run(
-            bases,
-            short,
-            long_at,
-            long_value,
-            edge_codes,
-            targets,
-            fields,
-            escape_at,
-            escape_label,
-            objects,
-            label,
-            sole,
-            i,
-            own_targets,
-            found,
-        );
+        let at = run(graph, objects, label, sole, i, own_targets, found);
         if at < objects.len() {
             let object = objects[at] as usize;
-            let answer = ask_field::field(
-                bases,
-                short,
-                long_at,
-                long_value,
-                edge_codes,
-                targets,
-                fields,
-                escape_at,
-                escape_label,
-                object,
-                label,
-            );
+            let answer = ask_field::field(graph, object, label);
             let done = ask_each_rows::row(answer, at, own_targets, found);
             if done {
                 i = at + 1;
@@ -126,51 +75,34 @@ fn ask(
             i = at;
         }
     }
-    EachField::Done(i)
+    Ok(i)
 }
 
 // A field of each object of a list: its target and the mark 1, or 0 and 0 where it has none, at the object's position in the list. A refusal gives the position,
 // and leaves zeros.
 pub fn field(
-    bases: &[u64],
-    short: &[u16],
-    long_at: &[u32],
-    long_value: &[u64],
-    edge_codes: &[u16],
-    targets: &[u32],
-    fields: &[u32],
-    escape_at: &[u64],
-    escape_label: &[u32],
+    graph: Strong<'_>,
     objects: &[u32],
     label: u32,
     own_targets: &mut [u32],
     found: &mut [u8],
-) -> EachField
-    ensures { let graph = edge_columns now_of bases short long_at long_value edge_codes targets fields escape_at escape_label in
-        left_each (each_field_says result) own_targets.new found.new ≡ each_left (asks graph label) objects.now (length own_targets.old) (length found.old) }
+) -> Result<usize, ListError>
+    ensures { left_each (each_field_says result) own_targets.new found.new ≡ each_left (asks (strong_in graph.entry) label) objects.now (length own_targets.old) (length found.old) }
 {
     let lacks = ask_each_rows::lacks_room(objects.len(), own_targets.len(), found.len());
     if lacks {
-        return ask_each_rows::settle(EachField::Room(12), own_targets, found);
+        return ask_each_rows::settle(Err(ListError::Room(12)), own_targets, found);
     }
-    let end = ask_each_spans::limit(edge_codes.len(), targets.len());
-    ask_each_spans::spans(bases, short, end, objects, own_targets, found);
-    let code = ask_each_codes::sole(fields, label, objects.len());
-    let answer = ask(
-        bases,
-        short,
-        long_at,
-        long_value,
-        edge_codes,
-        targets,
-        fields,
-        escape_at,
-        escape_label,
+    let end = ask_each_spans::limit(graph.labels.codes.len(), graph.targets.len());
+    ask_each_spans::spans(
+        graph.offsets.bases,
+        graph.offsets.short,
+        end,
         objects,
-        label,
-        code,
         own_targets,
         found,
     );
+    let code = ask_each_codes::sole(graph.labels.fields, label, objects.len());
+    let answer = ask(graph, objects, label, code, own_targets, found);
     ask_each_rows::settle(answer, own_targets, found)
 }

@@ -1,5 +1,6 @@
 -- The code that alone says a label: how one look at each field finds it, and how a walk over an object's codes goes by it. Assumes nothing.
 use Rattle.std.proofs.Common.{◌≡◌, ℕ, ◌+◌, ◌%◌, ◌<◌, ◌≤◌, ◌⊎◌, List, [], ◌∷◌, length, refl, inl, inr, arith, below_more}
+use Rattle.std.specs.Prelude.{Some, Ok}
 use Rattle.columns.specs.Lists.{◌!◌}
 use Rattle.columns.proofs.First.{Searching}
 use Rattle.columns.proofs.Lists.{lt_or_ge}
@@ -7,7 +8,6 @@ use Rattle.rules.specs.Types.{array_element_label}
 use Rattle.rules.specs.Labels.{Coded}
 use Rattle.labels.specs.Reading.{coarse_back}
 use Rattle.ask_field.specs.Sought.{stops, decoded}
-use Rattle.ask_field.specs.declared.Sought.TheVariants.{At}
 use Rattle.ask_field.proofs.Placed.{decoded_more, decoded-hit, element-says, field-says}
 use Rattle.ask_short.specs.Lean.{plain_of}
 use Rattle.ask_each_codes.specs.Codes.{Sole}
@@ -64,7 +64,7 @@ module _ (codes fields : List ℕ) (l code most : ℕ) (s : Sole fields l code m
   says : (k : ℕ) → codes ! (e + k) < most → coarse_back d (e + k) ≡ fields ! (codes ! (e + k)) ∷ []
   says k h = field-says d (e + k) (omega (arith, s.few)) (λ q. omega (arith, s.few)) (s.within (codes ! (e + k)) h) (s.field (codes ! (e + k)) h)
 
-  pub code-hit : {k : ℕ} → Searching (stops d e l) n k → k < n → codes ! (e + k) < 65536 → codes ! (e + k) ≡ code → At k ≡ decoded d e n l
+  pub code-hit : {k : ℕ} → Searching (stops d e l) n k → k < n → codes ! (e + k) < 65536 → codes ! (e + k) ≡ code → Ok (Some k) ≡ decoded d e n l
   code-hit {k} w h small is =
       let known : code < 65536 = omega arith in
       let in_most : codes ! (e + k) < most = omega (arith, s.below known) in

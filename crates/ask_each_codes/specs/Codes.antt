@@ -2,8 +2,7 @@
 use Rattle.std.specs.Prelude.{◌≡◌, ℕ, ◌<◌, ◌≤◌, List, length, ◌≢◌}
 use Rattle.columns.specs.Lists.{◌!◌}
 use Rattle.rules.specs.Types.{array_element_label}
-use Rattle.ask_field.specs.declared.Sought.{Sought}
-use Rattle.ask_field.specs.declared.Sought.TheVariants.{Bad}
+use Rattle.ask_field.specs.Sought.{Sought, unread}
 
 -- A code below `most` says its field by itself; of these `code` alone says the label l, and none does where it is 65,536.
 pub record Sole (fields : List ℕ) (l code most : ℕ) : Type 0 where
@@ -16,4 +15,4 @@ pub record Sole (fields : List ℕ) (l code most : ℕ) : Type 0 where
 
 -- an answer that leaves no doubt is the one asked for
 abbrev pub Quick : Sought → Sought → Type 0
-Quick r s = (r ≢ Bad) → r ≡ s
+Quick r s = (r ≢ unread) → r ≡ s

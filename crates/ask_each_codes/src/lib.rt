@@ -7,7 +7,7 @@ ghost use Rattle.ask_field.specs.Sought.{decoded, sought_in};
 ghost use Rattle.ask_short.specs.Lean.{plain_of};
 ghost use Rattle.ask_each_codes.specs.Codes.{Sole, Quick};
 
-use ask_field::Sought;
+use labels::Unread;
 use labels::code::ELEMENT;
 use rules::Label;
 use std::num::wrapping_add_u16;
@@ -31,8 +31,7 @@ pub fn sole(fields: &[u32], label: u32, asked: usize) -> SoleCode
     }
     let most = ask_field::plain_codes(fields);
     let mut code = 65536;
-    let mut v = 0;
-    while v < most {
+    for v in 0..most {
         let l = fields[v as usize];
         if Label::ARRAY_ELEMENT <= l {
             return SoleCode {
@@ -48,9 +47,6 @@ pub fn sole(fields: &[u32], label: u32, asked: usize) -> SoleCode
                 };
             }
             code = v as u32;
-            v += 1;
-        } else {
-            v += 1;
         }
     }
     SoleCode { code, most }
@@ -65,29 +61,27 @@ fn first_code(
     fields: &[u32],
     label: u32,
     sole: SoleCode,
-) -> Sought
+) -> Result<Option<usize>, Unread>
     requires count_in_bounds { (start + count ≤ length edge_codes.now) × (label < array_element_label) }
     requires sole { Sole fields.now label sole.code sole.most }
     ensures { Quick result (decoded (plain_of edge_codes.now fields.now) start count label) }
 {
     let asked = sole.code;
     let odd = sole.most + ELEMENT;
-    let mut k = 0;
-    while k < count {
+    for k in 0..count {
         let edge = start + k;
         let code = edge_codes[edge];
         if code as u32 == asked {
-            return Sought::At(k);
+            return Ok(Some(k));
         }
         if odd <= wrapping_add_u16(code, ELEMENT) {
-            return Sought::Bad;
+            return Err(Unread);
         }
-        k += 1;
     }
-    Sought::Nothing
+    Ok(None)
 }
 
-// The first edge whose coarse label matches, by the codes alone; Bad where they leave a doubt.
+// The first edge whose coarse label matches, by the codes alone; unread where they leave a doubt.
 pub fn seek(
     edge_codes: &[u16],
     start: usize,
@@ -95,16 +89,16 @@ pub fn seek(
     fields: &[u32],
     label: u32,
     sole: SoleCode,
-) -> Sought
+) -> Result<Option<usize>, Unread>
     requires count_in_bounds { start + count ≤ length edge_codes.now }
     requires sole { Sole fields.now label sole.code sole.most }
     ensures { Quick result (sought_in (plain_of edge_codes.now fields.now) start count label) }
 {
     if label == Label::ARRAY_ELEMENT {
-        return ask_field::first_element(edge_codes, start, count);
+        return Ok(ask_field::first_element(edge_codes, start, count));
     }
     if Label::ARRAY_ELEMENT <= label {
-        return Sought::Nothing;
+        return Ok(None);
     }
     first_code(edge_codes, start, count, fields, label, sole)
 }

@@ -3,57 +3,42 @@
 
 ghost use Rattle.std.specs.Prelude.{◌≡◌, ◌+◌, ◌≤◌, length};
 ghost use Rattle.columns.specs.Lists.{first_place};
-ghost use Rattle.rules.specs.Types.{span_says, coarse_says, exact_says, label_of_says};
+ghost use Rattle.rules.specs.Types.{span_says, exact_says, label_of_says};
 ghost use Rattle.labels.specs.Reading.{read_says};
 ghost use Rattle.ask_edge.specs.Edge.{edge_asked, or_columns, goes_to};
 
-use labels::EdgeLabel;
-use rules::{CoarseLabel, ExactLabel, Label, LabelOf, Span};
+use labels::Unread;
+use rules::{Label, ReadError, Span};
 
 // The span of an object, where it has the edge asked; else INDEX with the edge.
-pub fn with_edge(at: Span, edge: usize) -> Span
+pub fn with_edge(at: Result<Span, ReadError>, edge: usize) -> Result<Span, ReadError>
     ensures { span_says result ≡ edge_asked (span_says at) edge }
 {
-    match at {
-        Span::Edges { start, end } => {
-            if end <= start {
-                return Span::Index(edge);
-            }
-            if end - start <= edge {
-                return Span::Index(edge);
-            }
-            Span::Edges { start, end }
-        }
-        Span::Index(i) => Span::Index(i),
-        Span::Columns(o) => Span::Columns(o),
+    let Span { start, end } = at?;
+    if end <= start {
+        return Err(ReadError::Index(edge));
     }
+    if end - start <= edge {
+        return Err(ReadError::Index(edge));
+    }
+    Ok(Span { start, end })
 }
 
-pub fn coarse_answer(label: EdgeLabel, object: usize) -> CoarseLabel
-    ensures { coarse_says result ≡ or_columns object (read_says label) }
-{
-    match label {
-        EdgeLabel::Is(l) => CoarseLabel::Is(Label(l)),
-        EdgeLabel::Bad => CoarseLabel::Columns(object),
-    }
-}
-
-pub fn exact_answer(label: EdgeLabel, object: usize) -> ExactLabel
+// The label of an edge, or COLUMNS with its object.
+pub fn label_answer(label: Result<Label, Unread>, object: usize) -> Result<Label, ReadError>
     ensures { exact_says result ≡ or_columns object (read_says label) }
 {
-    match label {
-        EdgeLabel::Is(l) => ExactLabel::Is(Label(l)),
-        EdgeLabel::Bad => ExactLabel::Columns(object),
-    }
+    label.map_err(|_| ReadError::Columns(object))
 }
 
-pub fn target_answer(label: EdgeLabel, object: usize) -> LabelOf
+// The same of an edge that was found by its target.
+pub fn target_answer(
+    label: Result<Label, Unread>,
+    object: usize,
+) -> Result<Option<Label>, ReadError>
     ensures { label_of_says result ≡ or_columns object (read_says label) }
 {
-    match label {
-        EdgeLabel::Is(l) => LabelOf::Is(Label(l)),
-        EdgeLabel::Bad => LabelOf::Columns(object),
-    }
+    label_answer(label, object).map(Some)
 }
 
 // The first of an object's edges that goes to a target; their number where none does.
@@ -61,13 +46,11 @@ pub fn first_to(targets: &[u32], start: usize, count: usize, target: u32) -> usi
     requires { start + count ≤ length targets.now }
     ensures { result ≡ first_place (goes_to targets.now start target) count }
 {
-    let mut k = 0;
-    while k < count {
+    for k in 0..count {
         let edge = start + k;
         if targets[edge] == target {
             return k;
         }
-        k += 1;
     }
-    k
+    count
 }

@@ -17,12 +17,12 @@ use Rattle.ask_edges.specs.Object.{unread, target_met, label_met, OwnRead}
 use Rattle.ask_edges.proofs.InOrder.{stands_edge}
 
 -- an edge that is read has an object for its target, and a label
-met : (b : Bool) (x : ℕ) (ls : List ℕ) {t l : ℕ} → t ∷ l ∷ [] ≡ cond b [] (with_label x ls) → (b ≡ false) × (t ≡ x) × (ls ≡ l ∷ [])
+pub met : (b : Bool) (x : ℕ) (ls : List ℕ) {t l : ℕ} → t ∷ l ∷ [] ≡ cond b [] (with_label x ls) → (b ≡ false) × (t ≡ x) × (ls ≡ l ∷ [])
 met true x ls e = absurd (omega (arith, ap length e))
 met false x [] e = absurd (omega (arith, ap length e))
 met false x (a ∷ ls) e = (refl, (cc), (cc))
 
-unmet : (b : Bool) (x : ℕ) (ls : List ℕ) → [] ≡ cond b [] (with_label x ls) → any_of (b ∷ eqb (length ls) 0 ∷ []) ≡ true
+pub unmet : (b : Bool) (x : ℕ) (ls : List ℕ) → [] ≡ cond b [] (with_label x ls) → any_of (b ∷ eqb (length ls) 0 ∷ []) ≡ true
 unfolding any_of
 unmet true x ls e = refl
 unmet false x [] e = refl
@@ -35,20 +35,14 @@ pub record Reading (objects : ℕ) (ts : List ℕ) (d : Coded) (e n room : ℕ) 
   pub targets : Written (tab (target_met ts e) (min k room)) t₀ t (min k room)
   pub labels : Written (tab (label_met d e) (min k room)) l₀ l (min k room)
 
--- What stands at position k of the parts from e up to z was read: its target is an object and it has a label, or one of the two fails.
+-- What stands at position k of the parts from e up to z, read: its target, where that is an object, and its label.
 module _ (objects : ℕ) (ts : List ℕ) (d : Coded) (e z next k : ℕ) (m : k < z - e) (targeted : z ≤ length ts) (coded : z ≤ length d.codes) where
   abbrev read : List ℕ
   read = edge_back objects d.fields d.escape_at d.escape_label (e + k) next (step_at (part ts e z) (part d.codes e z) k)
 
-  said : read ≡ cond (leb objects (ts ! (e + k))) [] (with_label (ts ! (e + k)) (step_back d e k next))
+  pub edge-said : read ≡ cond (leb objects (ts ! (e + k))) [] (with_label (ts ! (e + k)) (step_back d e k next))
   unfolding edge_back
-  said = rw (stands_edge ts d.codes e z k targeted coded m)
-
-  pub edge-read : {t l : ℕ} → t ∷ l ∷ [] ≡ read → (leb objects (ts ! (e + k)) ≡ false) × (t ≡ ts ! (e + k)) × (step_back d e k next ≡ l ∷ [])
-  edge-read is = met (leb objects (ts ! (e + k))) (ts ! (e + k)) (step_back d e k next) (is ∙ said)
-
-  pub edge-unread : [] ≡ read → any_of (leb objects (ts ! (e + k)) ∷ eqb (length (step_back d e k next)) 0 ∷ []) ≡ true
-  edge-unread is = unmet (leb objects (ts ! (e + k))) (ts ! (e + k)) (step_back d e k next) (is ∙ said)
+  edge-said = rw (stands_edge ts d.codes e z k targeted coded m)
 
 module _ (objects : ℕ) (ts : List ℕ) (d : Coded) (e n room : ℕ) where
   pub reading_start : (t l : List ℕ) → Reading objects ts d e n room t l 0 0 t l
@@ -97,5 +91,7 @@ module _ (objects : ℕ) (ts : List ℕ) (d : Coded) (e n room : ℕ) where
       labels = w.labels.holds;
     }
 
-  pub reading_ends : {t₀ l₀ t l : List ℕ} {next k : ℕ} → Reading objects ts d e n room t₀ l₀ next k t l → n ≤ k → OwnRead objects ts d e n room k t₀ l₀ t l
-  reading_ends w m = record { read = searching_end _ _ w.searching m; targets = w.targets.holds; labels = w.labels.holds }
+  pub reading_ends : {t₀ l₀ t l : List ℕ} {next k : ℕ} → Reading objects ts d e n room t₀ l₀ next k t l → k ≡ n → OwnRead objects ts d e n room n t₀ l₀ t l
+  reading_ends {t₀} {l₀} {t} {l} {next} {k} w q =
+      let all : OwnRead objects ts d e n room k t₀ l₀ t l = record { read = searching_end _ _ w.searching (omega (arith, q)); targets = w.targets.holds; labels = w.labels.holds } in
+      rw q at all

@@ -1,12 +1,15 @@
 -- All edges of an object, into two lent columns: what the call answers and leaves, on any columns. Assumes nothing.
-use Rattle.std.specs.Prelude.{ℕ, ◌+◌, ◌-◌, min, ◌≡◌, Bool, cond, List, [], ◌∷◌, eqb, ltb, length}
+use Rattle.std.specs.Prelude.{ℕ, ◌+◌, ◌-◌, ◌<◌, min, ◌≡◌, Bool, cond, List, [], ◌∷◌, Result, eqb, ltb, leb, length}
 use Rattle.columns.specs.Lists.{◌!◌, tab, first_place, any_of}
 use Rattle.columns.specs.Columns.{over, accepts}
 use Rattle.rules.specs.Edges.{Edge}
 use Rattle.rules.specs.Labels.{Coded}
 use Rattle.rules.specs.Parts.{no_object}
 use Rattle.rules.specs.Questions.{Columns, objects_in, into_says, EdgesLeft, edges_into}
-use Rattle.labels.specs.Reading.{walk_back}
+use Rattle.labels.specs.declared.Unread.{Unread}
+use Rattle.labels.specs.Reading.{step_back, walk_back}
+use Rattle.ask_reader.specs.declared.ReadEdge.{ReadEdge}
+use Rattle.ask_reader.specs.Read.{read_edge_says, with_label}
 use Rattle.ask_span.specs.Graph.{span_in}
 -- the steps that read no edge: how many edges are written, the answer, the end
 pub use Rattle.ask_reader.specs.Own.{OwnSettled}
@@ -38,6 +41,12 @@ edges_found c o a b =
 -- what a call left, as one value
 abbrev pub left_edges : List ℕ → List ℕ → List ℕ → EdgesLeft
 left_edges says targets labels = record { says = says; targets = targets; labels = labels }
+
+-- What is read at each of n positions is the edge there: its target, where that is one of so many objects, and its label.
+abbrev pub ReadsEdges : (ℕ → ℕ → Result ReadEdge Unread → Type 0) → ℕ → List ℕ → Coded → ℕ → ℕ → Type 0
+ReadsEdges post objects ts d e n =
+    (k next : ℕ) (r : Result ReadEdge Unread) → k < n → post k next r
+    → read_edge_says r ≡ cond (leb objects (ts ! (e + k))) [] (with_label (ts ! (e + k)) (step_back d e k next))
 
 -- n edges are read in order up to one that cannot be, and those that have room are written.
 pub record OwnRead (objects : ℕ) (ts : List ℕ) (d : Coded) (e n room r : ℕ) (t₀ l₀ t l : List ℕ) : Type 0 where

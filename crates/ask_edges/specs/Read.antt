@@ -1,13 +1,13 @@
 -- The reader over an object's own parts, and what a reader answers. Assumes nothing.
-use Rattle.std.specs.Prelude.{ℕ}
+use Rattle.std.specs.Prelude.{ℕ, Option}
 use Rattle.rules.specs.Questions.{Columns}
 use Rattle.ask_span.specs.Reading.{span_part}
 use Rattle.ask_span.specs.Graph.{span_in}
 use Rattle.ask_reader.specs.declared.Step.{Step}
 -- what stands at a position of two parts, and an edge with its label there
-pub use Rattle.ask_reader.specs.Read.{read_edge_says, with_label}
+pub use Rattle.ask_reader.specs.Read.{stored, read_edge_says, with_label}
 unfoldable pub use Rattle.ask_reader.specs.Read.{step_at, edge_back}
 
 -- The reader over an object's own parts: those that `targets_of` and `codes_of` give.
-abbrev pub stands_in : Columns → ℕ → ℕ → Step
+abbrev pub stands_in : Columns → ℕ → ℕ → Option Step
 stands_in c o k = step_at (span_part (span_in c o) c.targets) (span_part (span_in c o) c.labels.codes) k

@@ -3,5 +3,5 @@
 
 mod object;
 
-pub use ask_reader::{Edges, Step, new, next, read, step_at};
-pub use object::object_edges;
+pub use ask_reader::{Edges, ReadEdge, Step, new, next, read, step_at};
+pub use object::{object_edges, read_edges};

@@ -6,6 +6,7 @@ use mathlib.Core.Bool.{Bool, true, false, cond, false≢true}
 use mathlib.Core.List.{List, [], ◌∷◌}
 use lib.Dec.{ltb}
 use lib.ListN.{length, get_or}
+use Rattle.std.specs.Prelude.{None, Some, Ok, Err}
 use borrow.Author.Tests.{ltb-false, eqb-false}
 use Rattle.columns.specs.Lists.{◌!◌, all_of, places, first_place}
 use Rattle.columns.specs.Columns.{accepts}
@@ -19,9 +20,7 @@ use Rattle.store.specs.Blocked.{blocked_of, short_back, read_back}
 use Rattle.labels.specs.Reading.{coded_of, row_back, code_back, coarse_back}
 use Rattle.ask_span.specs.Reading.{ended, span_of}
 use Rattle.ask_span.specs.Graph.{graph_of, span_in}
-use Rattle.ask_field.specs.Sought.{stops, stops_at, if_read, decoded, sought_in, sought_target, field_found}
-use Rattle.ask_field.specs.declared.Sought.{Sought}
-use Rattle.ask_field.specs.declared.Sought.TheVariants.{At, Nothing, Bad}
+use Rattle.ask_field.specs.Sought.{Sought, stops, stops_at, if_read, decoded, sought_in, sought_target, field_found}
 use Rattle.ask_field.proofs.Fields.{sought_field}
 
 -- an edge's label is read, and is another
@@ -45,14 +44,14 @@ another d l e h = go (coarse_back d e) refl h
     go [] r q = absurd (false≢true (sym q))
     go (a ∷ ls) r q = record { label = a; rest = ls; read = r; differs = eqb-false a l q }
 
-decoded-nothing : (d : Coded) (e n l : ℕ) → decoded d e n l ≡ Nothing → (k : ℕ) → k < n → stops d e l k ≡ false
+decoded-nothing : (d : Coded) (e n l : ℕ) → decoded d e n l ≡ Ok None → (k : ℕ) → k < n → stops d e l k ≡ false
 unfolding decoded
 decoded-nothing d e n l h k m = go (ltb j n) refl (coarse_back d (e + j)) h
   where
     j : ℕ
     j = first_place (stops d e l) n
 
-    go : (b : Bool) → ltb j n ≡ b → (ls : List ℕ) → cond b (if_read ls j) Nothing ≡ Nothing → stops d e l k ≡ false
+    go : (b : Bool) → ltb j n ≡ b → (ls : List ℕ) → cond b (if_read ls j) (Ok None) ≡ Ok None → stops d e l k ≡ false
     go true t [] q = let z : ◌≡◌ {A = ℕ} 0 1 = cc in absurd (omega arith)
     go true t (a ∷ ls) q = let z : ◌≡◌ {A = ℕ} 0 1 = cc in absurd (omega arith)
     go false t ls q = places_none (stops d e l) n k (none_past (stops d e l) n (ltb-false j n t)) m
@@ -72,9 +71,9 @@ field-nothing c o l low h k m = go (accepts s) refl (sought_in c.labels e n l) r
     n = s ! 2 - s ! 1
 
     go : (b : Bool) → accepts s ≡ b → (x : Sought) → sought_in c.labels e n l ≡ x → cond b (sought_target c.targets e o x) s ≡ 0 ∷ [] → Another c.labels l (e + k)
-    go true a (At i) x q = let z : ◌≡◌ {A = ℕ} 2 1 = ap length q in absurd (omega arith)
-    go true a Nothing x q = another c.labels l (e + k) (decoded-nothing c.labels e n l (sought_field c.labels e n l low ∙ x) k m)
-    go true a Bad x q = let z : ◌≡◌ {A = ℕ} 2 1 = ap length q in absurd (omega arith)
+    go true a (Ok (Some i)) x q = let z : ◌≡◌ {A = ℕ} 2 1 = ap length q in absurd (omega arith)
+    go true a (Ok None) x q = another c.labels l (e + k) (decoded-nothing c.labels e n l (sought_field c.labels e n l low ∙ x) k m)
+    go true a (Err u) x q = let z : ◌≡◌ {A = ℕ} 2 1 = ap length q in absurd (omega arith)
     go false a x y q = absurd (false≢true (sym a ∙ ap accepts q))
 
 -- Columns that no build left: one edge, whose label stands among the fields and is escaped all the same. It reads back, and is found.

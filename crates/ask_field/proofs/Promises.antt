@@ -9,6 +9,7 @@ use mathlib.Core.List.{List, [], ◌∷◌}
 use mathlib.Core.Option.{Option, none, some}
 use lib.Dec.{eqb, ltb, leb}
 use lib.ListN.{length, take}
+use Rattle.std.specs.Prelude.{None, Some, Ok, Err}
 use borrow.Author.Tests.{lt-ltb, le-ltb, ltb-true, leb-true, leb-false, eq-eqb, ne_eqb, eqb-true, eqb-false, not-true}
 use Rattle.columns.specs.Lists.{◌!◌, first_place, all_of, find, found, lookup, part}
 use Rattle.columns.specs.Columns.{accepts}
@@ -29,9 +30,7 @@ use Rattle.labels.specs.Reading.{coarse_back}
 use Rattle.labels.proofs.Back.{coarse-back}
 use Rattle.ask_span.specs.Reading.{weak_rows_of}
 use Rattle.ask_span.specs.Graph.{span_in}
-use Rattle.ask_field.specs.Sought.{first_sought, element_at, stops, if_read, decoded, sought_in, sought_target, field_found, first_weak, or_weak, referent_found}
-use Rattle.ask_field.specs.declared.Sought.{Sought}
-use Rattle.ask_field.specs.declared.Sought.TheVariants.{At, Nothing, Bad}
+use Rattle.ask_field.specs.Sought.{Sought, first_sought, element_at, stops, if_read, decoded, sought_in, sought_target, field_found, first_weak, or_weak, referent_found}
 use Rattle.ask_span.proofs.Spans.{asked_reads, span-read, span_none, span-columns, weak_ordered, weak_climbs, weak_paired, weak-read, weak-columns}
 use Rattle.ask_span.proofs.FirstEdge.{first_edge_lem}
 use Rattle.ask_span.proofs.Escapes.{escapes_rising, escapes_paired, edge_reads}
@@ -98,7 +97,7 @@ module _ (c : Columns) (o l : ℕ) (h : reads_back c o ≡ true) where
   back : (k : ℕ) → k < n → coarse_back d (e + k) ≡ coarse_label d e k ∷ []
   back k m = coarse-back d (escapes_rising c o h) (escapes_paired c o h) e k (edge_reads c o h k m)
 
-  match_decoded : decoded d e n l ≡ first_sought matches n
+  match_decoded : decoded d e n l ≡ Ok (first_sought matches n)
   unfolding decoded first_sought
   match_decoded = ap walked (first_ext (stops d e l) matches n (λ k m. rw (back k m))) ∙ go (ltb j n) refl
     where
@@ -106,28 +105,28 @@ module _ (c : Columns) (o l : ℕ) (h : reads_back c o ≡ true) where
       j = first_place matches n
 
       walked : ℕ → Sought
-      walked i = cond (ltb i n) (if_read (coarse_back d (e + i)) i) Nothing
+      walked i = cond (ltb i n) (if_read (coarse_back d (e + i)) i) (Ok None)
 
-      go : (b : Bool) → ltb j n ≡ b → cond b (if_read (coarse_back d (e + j)) j) Nothing ≡ cond b (At j) Nothing
+      go : (b : Bool) → ltb j n ≡ b → cond b (if_read (coarse_back d (e + j)) j) (Ok None) ≡ Ok (cond b (Some j) None)
       go true t = ap (λ (ls : List ℕ). if_read ls j) (back j (ltb-true j n t))
       go false t = refl
 
   -- what is sought is the first edge whose coarse label is the one asked
-  sought_read : sought_in d e n l ≡ first_sought matches n
+  sought_read : sought_in d e n l ≡ Ok (first_sought matches n)
   sought_read = go (eqb l array_element_label) refl (is_element l) refl
     where
-      go : (a : Bool) → eqb l array_element_label ≡ a → (b : Bool) → is_element l ≡ b → sought_in d e n l ≡ first_sought matches n
+      go : (a : Bool) → eqb l array_element_label ≡ a → (b : Bool) → is_element l ≡ b → sought_in d e n l ≡ Ok (first_sought matches n)
       go true p b q =
           let is : l ≡ array_element_label = eqb-true l array_element_label p in
-          sym (sought_element d e n l is) ∙ placed_ext (element_at d e) matches n (match_element is)
+          sym (sought_element d e n l is) ∙ ap Ok (placed_ext (element_at d e) matches n (match_element is))
       go false p true q =
           let not_it : l ≡ array_element_label → ⊥ = eqb-false l array_element_label p in
           let high : array_element_label ≤ l = leb-true array_element_label l q in
-          sym (sought_other d e n l not_it high) ∙ placed_none matches n (λ k m. ne_eqb (coarse_label d e k) l (λ w. not_it (omega (arith, coarse_most k m))))
+          sym (sought_other d e n l not_it high) ∙ ap Ok (placed_none matches n (λ k m. ne_eqb (coarse_label d e k) l (λ w. not_it (omega (arith, coarse_most k m)))))
       go false p false q = sym (sought_field d e n l (leb-false array_element_label l q)) ∙ match_decoded
 
   -- the rules' answer on the edges that are read
-  target-read : sought_target c.targets e o (first_sought matches n) ≡ 0 ∷ field_in (edges_read c o) l
+  target-read : sought_target c.targets e o (Ok (first_sought matches n)) ≡ 0 ∷ field_in (edges_read c o) l
   unfolding first_sought field_in edges_read
   target-read =
       rw (first_edge_lem (λ (x : Edge). eqb (coarse x.label) l) (edge_at c o) n, ← first_ext matches (λ k. eqb (coarse (exact_label d e k)) l) n (λ k m. ap (λ (z : ℕ). eqb z l) (coarse-code d e k (edge_reads c o h k m))))
@@ -136,7 +135,7 @@ module _ (c : Columns) (o l : ℕ) (h : reads_back c o ≡ true) where
       j : ℕ
       j = first_place matches n
 
-      go : (b : Bool) → sought_target c.targets e o (cond b (At j) Nothing) ≡ 0 ∷ targets_of (cond b (some (edge_at c o j)) none)
+      go : (b : Bool) → sought_target c.targets e o (Ok (cond b (Some j) None)) ≡ 0 ∷ targets_of (cond b (some (edge_at c o j)) none)
       go true = refl
       go false = refl
 
@@ -170,9 +169,9 @@ module _ (c : Columns) (o l : ℕ) where
       says = span_in c o
 
       go : (b : Bool) (s : Sought) → eqb (cond b (sought_target c.targets (says ! 1) o s) says ! 0) 12 ≡ true → cond b (sought_target c.targets (says ! 1) o s) says ≡ 12 ∷ o ∷ []
-      go true (At k) q = absurd (false≢true q)
-      go true Nothing q = absurd (false≢true q)
-      go true Bad q = refl
+      go true (Ok (Some k)) q = absurd (false≢true q)
+      go true (Ok None) q = absurd (false≢true q)
+      go true (Err u) q = refl
       go false s q = span-columns c o q
 
   field_none : objects_in c ≤ o → field_found c o l ≡ 11 ∷ o ∷ []

@@ -1,40 +1,31 @@
 // The target of an object's field, and of its weak reference where it has no such field.
 #![tactic(auto)]
 
-ghost use Rattle.std.specs.Prelude.{◌≡◌, [], ◌+◌, ◌<◌, ◌≤◌, length};
-ghost use Rattle.columns.specs.Loans.{now_of};
+ghost use Rattle.std.specs.Prelude.{◌≡◌, ℕ, [], ◌+◌, ◌<◌, ◌≤◌, length};
 ghost use Rattle.columns.specs.Lists.{◌!◌};
 ghost use Rattle.rules.specs.Types.{array_element_label, field_says, referent_says};
 ghost use Rattle.labels.specs.Reading.{coded_of};
 ghost use Rattle.ask_span.specs.Reading.{weak_rows_of};
-ghost use Rattle.ask_span.specs.Graph.{graph_columns, edge_columns};
-ghost use Rattle.ask_field.specs.Sought.{first_sought, element_at, decoded, sought_in, field_found, first_weak, referent_found};
+ghost use Rattle.ask_span.specs.Graph.{graph_in, strong_in};
+ghost use Rattle.ask_field.specs.Sought.{first_sought, element_at, Rows, with_rows, Unsaid, Reads, decoded, sought_in, sought_target, field_found, first_weak, referent_found};
 
-use labels::EdgeLabel;
+use ask_span::{Graph, Strong};
+use labels::Unread;
 use labels::code::{ELEMENT, ESCAPED};
-use rules::{Field, Label, Referent, Span, WeakReferents};
+use rules::{Label, ReadError};
 
-// The first edge that matches: its number among the object's. Bad where an edge before it cannot be read.
-#[derive(Clone, Copy)]
-pub enum Sought {
-    At(usize),
-    Nothing,
-    Bad,
-}
-
-pub fn first_element(edge_codes: &[u16], start: usize, count: usize) -> Sought
+// The first edge of an element: its number among the object's.
+pub fn first_element(edge_codes: &[u16], start: usize, count: usize) -> Option<usize>
     requires { start + count ≤ length edge_codes.now }
     ensures { result ≡ first_sought (element_at (coded_of edge_codes.now [] [] []) start) count }
 {
-    let mut k = 0;
-    while k < count {
+    for k in 0..count {
         let edge = start + k;
         if ELEMENT <= edge_codes[edge] {
-            return Sought::At(k);
+            return Some(k);
         }
-        k += 1;
     }
-    Sought::Nothing
+    None
 }
 
 // How many codes say a field by themselves: those of the fields, below the escape.
@@ -47,185 +38,121 @@ pub fn plain_codes(fields: &[u32]) -> u16
     ESCAPED
 }
 
-// The first edge with a field's label. Most codes say their field by one look into the fields, and elements are passed over; what is left is read.
-fn first_label(
+// The first edge with a field's label, unread where an edge before it cannot be read. Most codes say their field by one look into the fields, and elements are
+// passed over; what is left `read` reads.
+fn first_label<R: Fn(usize) -> Result<Label, Unread>>(
     edge_codes: &[u16],
     start: usize,
     count: usize,
     fields: &[u32],
-    escape_at: &[u64],
-    escape_label: &[u32],
     label: u32,
-) -> Sought
-    requires { (start + count ≤ length edge_codes.now) × (label < array_element_label) }
-    ensures { result ≡ decoded (coded_of edge_codes.now fields.now escape_at.now escape_label.now) start count label }
+    read: R,
+) -> Result<Option<usize>, Unread>
+    requires count_in_bounds { (start + count ≤ length edge_codes.now) × (label < array_element_label) }
+    requires may_read { (edge : ℕ) → Unsaid edge_codes.now fields.now edge → R.pre read edge }
+    ensures { (rows : Rows) → Reads (R.post read) edge_codes.now fields.now rows
+        → result ≡ decoded (with_rows edge_codes.now fields.now rows) start count label }
 {
     let most = plain_codes(fields);
-    let mut k = 0;
-    while k < count {
+    for k in 0..count {
         let edge = start + k;
         let code = edge_codes[edge];
         if code < most {
             let l = fields[code as usize];
             if l == label {
-                return Sought::At(k);
+                return Ok(Some(k));
             }
             if Label::ARRAY_ELEMENT <= l {
-                return Sought::Bad;
+                return Err(Unread);
             }
-            k += 1;
-        } else if ELEMENT <= code {
-            k += 1;
-        } else {
-            let read = labels::read::coarse(edge_codes, edge, fields, escape_at, escape_label);
-            match read {
-                EdgeLabel::Is(l) => {
-                    if l == label {
-                        return Sought::At(k);
-                    }
-                    k += 1;
-                }
-                EdgeLabel::Bad => {
-                    return Sought::Bad;
-                }
+        } else if code < ELEMENT {
+            let said = read(edge)?;
+            if said.0 == label {
+                return Ok(Some(k));
             }
         }
     }
-    Sought::Nothing
+    Ok(None)
 }
 
-// The first edge whose coarse label matches.
-fn seek(
+// The first edge whose coarse label matches. Where a code does not say its label by itself, `read` reads it.
+pub fn seek<R: Fn(usize) -> Result<Label, Unread>>(
     edge_codes: &[u16],
     start: usize,
     count: usize,
     fields: &[u32],
-    escape_at: &[u64],
-    escape_label: &[u32],
     label: u32,
-) -> Sought
-    requires { start + count ≤ length edge_codes.now }
-    ensures { result ≡ sought_in (coded_of edge_codes.now fields.now escape_at.now escape_label.now) start count label }
+    read: R,
+) -> Result<Option<usize>, Unread>
+    requires count_in_bounds { start + count ≤ length edge_codes.now }
+    requires may_read { (edge : ℕ) → Unsaid edge_codes.now fields.now edge → R.pre read edge }
+    ensures { (rows : Rows) → Reads (R.post read) edge_codes.now fields.now rows
+        → result ≡ sought_in (with_rows edge_codes.now fields.now rows) start count label }
 {
     if label == Label::ARRAY_ELEMENT {
-        return first_element(edge_codes, start, count);
+        return Ok(first_element(edge_codes, start, count));
     }
     if Label::ARRAY_ELEMENT <= label {
-        return Sought::Nothing;
+        return Ok(None);
     }
-    first_label(
-        edge_codes,
-        start,
-        count,
-        fields,
-        escape_at,
-        escape_label,
-        label,
-    )
+    first_label(edge_codes, start, count, fields, label, read)
 }
 
-pub fn target_at(targets: &[u32], edge: usize) -> u32
-    requires { edge < length targets.now }
-    ensures { result ≡ targets.now ! edge }
+// What a field holds, by the first edge that matches among those from `start` on.
+pub fn sought_answer(
+    targets: &[u32],
+    start: usize,
+    sought: Result<Option<usize>, Unread>,
+    object: usize,
+) -> Result<Option<u32>, ReadError>
+    requires { (k : ℕ) → sought ≡ Ok (Some k) → start + k < length targets.now }
+    ensures { field_says result ≡ sought_target targets.now start object sought }
 {
-    targets[edge]
+    match sought {
+        Ok(Some(k)) => Ok(Some(targets[start + k])),
+        Ok(None) => Ok(None),
+        Err(_) => Err(ReadError::Columns(object)),
+    }
 }
 
 // The target of a field of an object: of its first edge whose coarse label matches.
-pub fn field(
-    bases: &[u64],
-    short: &[u16],
-    long_at: &[u32],
-    long_value: &[u64],
-    edge_codes: &[u16],
-    targets: &[u32],
-    fields: &[u32],
-    escape_at: &[u64],
-    escape_label: &[u32],
-    object: usize,
-    label: u32,
-) -> Field
-    ensures { let graph = edge_columns now_of bases short long_at long_value edge_codes targets fields escape_at escape_label in
-        field_says result ≡ field_found graph object label }
+pub fn field(graph: Strong<'_>, object: usize, label: u32) -> Result<Option<u32>, ReadError>
+    ensures { field_says result ≡ field_found (strong_in graph.entry) object label }
 {
-    let at = ask_span::span(
-        bases, short, long_at, long_value, edge_codes, targets, object,
+    let at = graph.span(object)?;
+    let sought = seek(
+        graph.labels.codes,
+        at.start,
+        at.end - at.start,
+        graph.labels.fields,
+        label,
+        |edge| graph.labels.coarse(edge),
     );
-    match at {
-        Span::Edges { start, end } => {
-            let sought = seek(
-                edge_codes,
-                start,
-                end - start,
-                fields,
-                escape_at,
-                escape_label,
-                label,
-            );
-            match sought {
-                Sought::At(k) => Field::Target(target_at(targets, start + k)),
-                Sought::Nothing => Field::Nothing,
-                Sought::Bad => Field::Columns(object),
-            }
-        }
-        Span::Index(i) => Field::Index(i),
-        Span::Columns(o) => Field::Columns(o),
-    }
+    sought_answer(graph.targets, at.start, sought, object)
 }
 
 // The first of an object's weak targets: pairs are sorted, so that it is the smallest.
-pub fn first_weak(short: &[u16], weak_from: &[u32], weak_to: &[u32], object: usize) -> Referent
-    ensures { referent_says result ≡ first_weak (weak_rows_of (length short.now) weak_from.now weak_to.now object) weak_to.now }
-{
-    let at = ask_span::weak_referents(short, weak_from, weak_to, object);
-    match at {
-        WeakReferents::Rows { start, end } => {
-            if end <= start {
-                return Referent::Nothing;
-            }
-            Referent::Target(weak_to[start])
-        }
-        WeakReferents::Index(i) => Referent::Index(i),
-        WeakReferents::Columns(o) => Referent::Columns(o),
-    }
-}
-
-// The target of a field of an object, or where it has none its smallest weak target.
-pub fn referent(
-    bases: &[u64],
+pub fn first_weak(
     short: &[u16],
-    long_at: &[u32],
-    long_value: &[u64],
-    edge_codes: &[u16],
-    targets: &[u32],
-    fields: &[u32],
-    escape_at: &[u64],
-    escape_label: &[u32],
     weak_from: &[u32],
     weak_to: &[u32],
     object: usize,
-    label: u32,
-) -> Referent
-    ensures { let graph = graph_columns now_of bases short long_at long_value edge_codes targets fields escape_at escape_label weak_from weak_to in
-        referent_says result ≡ referent_found graph object label }
+) -> Result<Option<u32>, ReadError>
+    ensures { referent_says result ≡ first_weak (weak_rows_of (length short.now) weak_from.now weak_to.now object) weak_to.now }
 {
-    let held = field(
-        bases,
-        short,
-        long_at,
-        long_value,
-        edge_codes,
-        targets,
-        fields,
-        escape_at,
-        escape_label,
-        object,
-        label,
-    );
-    match held {
-        Field::Target(t) => Referent::Target(t),
-        Field::Nothing => first_weak(short, weak_from, weak_to, object),
-        Field::Index(i) => Referent::Index(i),
-        Field::Columns(o) => Referent::Columns(o),
+    let at = ask_span::weak_referents(short, weak_from, weak_to, object)?;
+    if at.end <= at.start {
+        return Ok(None);
+    }
+    Ok(Some(weak_to[at.start]))
+}
+
+// The target of a field of an object, or where it has none its smallest weak target.
+pub fn referent(graph: Graph<'_>, object: usize, label: u32) -> Result<Option<u32>, ReadError>
+    ensures { referent_says result ≡ referent_found (graph_in graph.entry) object label }
+{
+    match field(graph.strong(), object, label)? {
+        Some(t) => Ok(Some(t)),
+        None => first_weak(graph.offsets.short, graph.weak_from, graph.weak_to, object),
     }
 }

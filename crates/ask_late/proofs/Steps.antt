@@ -276,14 +276,14 @@ pub record Summed (codes : List ℕ) (from sum i : ℕ) : Type 0 where
 pub summed_start : (codes : List ℕ) (from : ℕ) → Summed codes from 0 0
 summed_start codes from = record { within = omega arith; small = omega arith; holds = refl }
 
-pub summed_more : (codes : List ℕ) (from sum i : ℕ) {v : ℕ} → Summed codes from sum i → i < 32 → v ≡ steps_of (codes ! (from + i)) → v ≤ 67108864
-    → Summed codes from (sum + v) (i + 1)
-summed_more codes from sum i w l e m = record {
+pub summed_more : (codes : List ℕ) (from s i : ℕ) {v : ℕ} → Summed codes from s i → i < 32 → v ≡ steps_of (codes ! (from + i)) → v ≤ 67108864
+    → Summed codes from (s + v) (i + 1)
+summed_more codes from s i w l e m = record {
   within = omega arith;
   small = omega (arith, w.small);
   holds = total_more (λ j. steps_of (codes ! (from + j))) i w.holds e;
 }
 
-pub summed_end : (codes : List ℕ) (from sum i : ℕ) → Summed codes from sum i → 32 ≤ i → sum ≡ block_steps codes from
+pub summed_end : (codes : List ℕ) (from s i : ℕ) → Summed codes from s i → 32 ≤ i → s ≡ block_steps codes from
 unfolding block_steps
-summed_end codes from sum i w l = total-end (λ j. steps_of (codes ! (from + j))) w.holds w.within l
+summed_end codes from s i w l = total-end (λ j. steps_of (codes ! (from + j))) w.holds w.within l

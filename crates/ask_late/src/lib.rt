@@ -3,12 +3,12 @@
 #![tactic(auto)]
 
 ghost use Rattle.std.specs.Prelude.{◌≡◌, ◌+◌, ◌≤◌, ◌<◌, length};
-ghost use Rattle.labels.specs.Reading.{read_says, coded_of, code_back, element_back, next_of};
+ghost use Rattle.labels.specs.Reading.{read_says, coded_in, code_back, element_back, next_of};
 ghost use Rattle.ask_late.specs.Late.{late_back, late_next, after_steps, steps_of, block_steps};
 
-use labels::EdgeLabel;
 use labels::code::ELEMENT;
 use labels::read::read_code;
+use labels::{Codes, Unread};
 use rules::Label;
 
 // The code of an escaped element.
@@ -39,149 +39,101 @@ fn block_steps(edge_codes: &[u16], from: usize) -> u32
     ensures { result ≡ block_steps edge_codes.now from }
 {
     let mut sum = 0;
-    let mut i = 0;
-    while i < BLOCK {
+    for i in 0..BLOCK {
         sum += steps_of(edge_codes[from + i]);
-        i += 1;
     }
     sum
 }
 
 // The label of an element by its index.
-fn element(index: u32) -> EdgeLabel
+fn element(index: u32) -> Result<Label, Unread>
     ensures { read_says result ≡ element_back index }
 {
     if Label::ARRAY_ELEMENT <= index {
-        return EdgeLabel::Bad;
+        return Err(Unread);
     }
-    let label = Label::element(index);
-    EdgeLabel::Is(label.0)
+    Ok(Label::element(index))
+}
+
+// The label that a code says where the edges before it do not matter: a field's, or an escaped element's.
+fn alone(code: u16, edge: u64, coded: Codes<'_>) -> Result<Label, Unread>
+    ensures { read_says result ≡ code_back coded.entry.fields.now coded.entry.escape_at.now coded.entry.escape_label.now edge 0 code }
+{
+    read_code(
+        code,
+        edge,
+        0,
+        coded.fields,
+        coded.escape_at,
+        coded.escape_label,
+    )
 }
 
 // The label of the element so many steps behind an escaped one, whose row says its index.
-fn behind_escape(
-    edge: u64,
-    steps: u32,
-    fields: &[u32],
-    escape_at: &[u64],
-    escape_label: &[u32],
-) -> EdgeLabel
+fn behind_escape(edge: u64, steps: u32, coded: Codes<'_>) -> Result<Label, Unread>
     requires { steps ≤ 2147483648 }
-    ensures { read_says result ≡ after_steps steps (next_of 0 (code_back fields.now escape_at.now escape_label.now edge 0 65535)) }
+    ensures { read_says result ≡ after_steps steps (next_of 0 (code_back coded.entry.fields.now coded.entry.escape_at.now coded.entry.escape_label.now edge 0 65535)) }
 {
-    match read_code(ESCAPED_ELEMENT, edge, 0, fields, escape_at, escape_label) {
-        EdgeLabel::Is(label) => element(label - Label::ARRAY_ELEMENT + steps),
-        EdgeLabel::Bad => EdgeLabel::Bad,
-    }
+    let row = alone(ESCAPED_ELEMENT, edge, coded)?;
+    element(row.0 - Label::ARRAY_ELEMENT + steps)
 }
 
 // The label of the element so many steps behind the k-th edge of the object whose edges begin at `start`. A field between elements takes no step, but has to
 // be read.
-fn back(
-    edge_codes: &[u16],
-    start: usize,
-    k: usize,
-    first: u32,
-    fields: &[u32],
-    escape_at: &[u64],
-    escape_label: &[u32],
-) -> EdgeLabel
-    requires { (start + k ≤ length edge_codes.now) × ((1 ≤ first) × (first ≤ 2147483648)) }
-    ensures { let codes = coded_of edge_codes.now fields.now escape_at.now escape_label.now in
-        read_says result ≡ after_steps first (late_next codes start k) }
+fn back(coded: Codes<'_>, start: usize, k: usize, first: u32) -> Result<Label, Unread>
+    requires { (start + k ≤ length coded.codes.now) × ((1 ≤ first) × (first ≤ 2147483648)) }
+    ensures { read_says result ≡ after_steps first (late_next (coded_in coded.entry) start k) }
 {
     let mut steps = first;
-    let mut left = k;
-    while 0 < left {
-        let edge = start + (left - 1);
-        let code = edge_codes[edge];
+    for left in (0..k).rev() {
+        let edge = start + left;
+        let code = coded.codes[edge];
         let more = steps_of(code);
         if more < OTHER {
             steps += more;
             if Label::ARRAY_ELEMENT < steps {
-                return EdgeLabel::Bad;
+                return Err(Unread);
             }
-            left -= 1;
+        } else if code == ESCAPED_ELEMENT {
+            return behind_escape(edge as u64, steps, coded);
         } else {
-            if code == ESCAPED_ELEMENT {
-                return behind_escape(edge as u64, steps, fields, escape_at, escape_label);
-            }
-            match read_code(code, edge as u64, 0, fields, escape_at, escape_label) {
-                EdgeLabel::Is(_) => {
-                    left -= 1;
-                }
-                EdgeLabel::Bad => {
-                    return EdgeLabel::Bad;
-                }
-            }
+            alone(code, edge as u64, coded)?;
         }
     }
     element(steps - 1)
 }
 
 // The same, a block at a time as long as that can be done.
-fn back_by_blocks(
-    edge_codes: &[u16],
-    start: usize,
-    k: usize,
-    first: u32,
-    fields: &[u32],
-    escape_at: &[u64],
-    escape_label: &[u32],
-) -> EdgeLabel
-    requires { (start + k ≤ length edge_codes.now) × ((1 ≤ first) × (first ≤ 2147483648)) }
-    ensures { let codes = coded_of edge_codes.now fields.now escape_at.now escape_label.now in
-        read_says result ≡ after_steps first (late_next codes start k) }
+fn back_by_blocks(coded: Codes<'_>, start: usize, k: usize, first: u32) -> Result<Label, Unread>
+    requires { (start + k ≤ length coded.codes.now) × ((1 ≤ first) × (first ≤ 2147483648)) }
+    ensures { read_says result ≡ after_steps first (late_next (coded_in coded.entry) start k) }
 {
     let mut steps = first;
     let mut left = k;
     while BLOCK <= left {
-        let more = block_steps(edge_codes, start + (left - BLOCK));
+        let more = block_steps(coded.codes, start + (left - BLOCK));
         if OTHER <= more {
-            return back(
-                edge_codes,
-                start,
-                left,
-                steps,
-                fields,
-                escape_at,
-                escape_label,
-            );
+            return back(coded, start, left, steps);
         }
         steps += more;
         if Label::ARRAY_ELEMENT < steps {
-            return EdgeLabel::Bad;
+            return Err(Unread);
         }
         left -= BLOCK;
     }
-    back(
-        edge_codes,
-        start,
-        left,
-        steps,
-        fields,
-        escape_at,
-        escape_label,
-    )
+    back(coded, start, left, steps)
 }
 
 // An edge's label: the k-th of the object whose edges begin at `start`. A field's and an escaped element's stand for themselves.
-pub fn exact(
-    edge_codes: &[u16],
-    start: usize,
-    k: usize,
-    fields: &[u32],
-    escape_at: &[u64],
-    escape_label: &[u32],
-) -> EdgeLabel
-    requires { start + k < length edge_codes.now }
-    ensures { read_says result ≡ late_back (coded_of edge_codes.now fields.now escape_at.now escape_label.now) start k }
+pub fn exact(coded: Codes<'_>, start: usize, k: usize) -> Result<Label, Unread>
+    requires { start + k < length coded.codes.now }
+    ensures { read_says result ≡ late_back (coded_in coded.entry) start k }
 {
     let edge = start + k;
-    let code = edge_codes[edge];
+    let code = coded.codes[edge];
     let steps = steps_of(code);
     if steps < OTHER {
-        return back_by_blocks(edge_codes, start, k, steps, fields, escape_at, escape_label);
+        return back_by_blocks(coded, start, k, steps);
     }
-    read_code(code, edge as u64, 0, fields, escape_at, escape_label)
+    alone(code, edge as u64, coded)
 }

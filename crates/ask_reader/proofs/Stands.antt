@@ -2,27 +2,27 @@
 use Prim.Native.Nat.{ℕ, ◌≤◌, ◌<◌}
 use mathlib.Core.Path.{◌≡◌, sym, ap, ◌∙◌}
 use mathlib.Core.List.{List, []}
+use Rattle.std.specs.Prelude.{Option, None, Some}
 use borrow.Author.Tests.{lt-leb, le-leb}
 use Rattle.labels.specs.Reading.{code_back}
 use Rattle.ask_reader.specs.declared.Step.{Step}
-use Rattle.ask_reader.specs.declared.Step.TheVariants as Step
 use Rattle.ask_reader.specs.Read.{with_label, edge_back}
 
 -- What stands there, read: its target is no object; its label; the end.
 module _ (objects : ℕ) (f a l : List ℕ) (place n : ℕ) where
-  pub edge-out : {t c : ℕ} {s : Step} → Step.Edge t c ≡ s → objects ≤ t → [] ≡ edge_back objects f a l place n s
-  unfolding edge_back
-  edge-out {t} {c} q h =
-      let none : edge_back objects f a l place n (Step.Edge t c) ≡ [] = rw (le-leb objects t h) in
-      sym none ∙ ap (edge_back objects f a l place n) q
+  abbrev back : Option Step → List ℕ
+  back s = edge_back objects f a l place n s
 
-  pub edge_is : {t c : ℕ} {s : Step} {says ls : List ℕ} → Step.Edge t c ≡ s → t < objects → ls ≡ code_back f a l place n c → says ≡ with_label t ls
-      → says ≡ edge_back objects f a l place n s
+  pub edge-out : {e : Step} {s : Option Step} → Some e ≡ s → objects ≤ e.target → [] ≡ back s
   unfolding edge_back
-  edge_is {t} {c} q h r w =
-      let one : edge_back objects f a l place n (Step.Edge t c) ≡ with_label t (code_back f a l place n c) = rw (lt-leb objects t h) in
-      w ∙ ap (with_label t) r ∙ sym one ∙ ap (edge_back objects f a l place n) q
+  edge-out {e} q h = let none : back (Some e) ≡ [] = rw (le-leb objects e.target h) in sym none ∙ ap back q
 
-  pub edge_none : {s : Step} → Step.End ≡ s → [] ≡ edge_back objects f a l place n s
+  pub edge_is : {e : Step} {s : Option Step} {ls : List ℕ} → Some e ≡ s → e.target < objects → ls ≡ code_back f a l place n e.code → with_label e.target ls ≡ back s
   unfolding edge_back
-  edge_none q = ap (edge_back objects f a l place n) q
+  edge_is {e} q h r =
+      let one : back (Some e) ≡ with_label e.target (code_back f a l place n e.code) = rw (lt-leb objects e.target h) in
+      ap (with_label e.target) r ∙ sym one ∙ ap back q
+
+  pub edge_none : {s : Option Step} → None ≡ s → [] ≡ back s
+  unfolding edge_back
+  edge_none q = ap back q

@@ -5,10 +5,10 @@
 pub mod own;
 
 ghost use Rattle.std.specs.Prelude.{◌≡◌};
-ghost use Rattle.labels.specs.Reading.{read_says};
-ghost use Rattle.ask_reader.specs.Read.{step_at, read_edge_says, with_label, edge_back};
+ghost use Rattle.ask_reader.specs.Read.{step_at, read_edge_says, edge_back};
 
-use labels::EdgeLabel;
+use labels::{Codes, Unread};
+use rules::Label;
 
 // `at` is the edge that is read next, counted from the object's first.
 #[derive(Clone, Copy)]
@@ -20,32 +20,32 @@ pub struct Edges<'a, 'b> {
 
 // An edge as it stands in the columns.
 #[derive(Clone, Copy)]
-pub enum Step {
-    Edge { target: u32, code: u16 },
-    End,
+pub struct Step {
+    pub target: u32,
+    pub code: u16,
 }
 
-// An edge with its exact label, or one that cannot be read back.
+// An edge with its exact label.
 #[derive(Clone, Copy)]
-pub enum ReadEdge {
-    Edge { target: u32, label: u32 },
-    Bad,
+pub struct ReadEdge {
+    pub target: u32,
+    pub label: Label,
 }
 
-// The work: what stands at a position of the two parts.
-pub fn step_at<'a, 'b>(targets: &'a [u32], codes: &'b [u16], at: usize) -> Step
+// The work: what stands at a position of the two parts; nothing at their end.
+pub fn step_at<'a, 'b>(targets: &'a [u32], codes: &'b [u16], at: usize) -> Option<Step>
     ensures { result ≡ step_at targets.now codes.now at }
 {
     if targets.len() <= at {
-        return Step::End;
+        return None;
     }
     if codes.len() <= at {
-        return Step::End;
+        return None;
     }
-    Step::Edge {
+    Some(Step {
         target: targets[at],
         code: codes[at],
-    }
+    })
 }
 
 pub fn new<'a, 'b>(targets: &'a [u32], codes: &'b [u16], at: usize) -> Edges<'a, 'b>
@@ -54,59 +54,45 @@ pub fn new<'a, 'b>(targets: &'a [u32], codes: &'b [u16], at: usize) -> Edges<'a,
     Edges { targets, codes, at }
 }
 
-pub fn next<'a, 'b>(e: Edges<'a, 'b>) -> Step
+pub fn next<'a, 'b>(e: Edges<'a, 'b>) -> Option<Step>
     ensures { result ≡ step_at e.entry.targets.now e.entry.codes.now e.entry.at }
 {
     step_at(e.targets, e.codes, e.at)
 }
 
 // A function with plain parameters above them: whoever calls it needs no struct.
-pub fn read<'a, 'b>(targets: &'a [u32], codes: &'b [u16], at: usize) -> Step
+pub fn read<'a, 'b>(targets: &'a [u32], codes: &'b [u16], at: usize) -> Option<Step>
     ensures { result ≡ step_at targets.now codes.now at }
 {
     next(new(targets, codes, at))
 }
 
-// The edge at a position, read: `place` is its place in the columns, and an element has the index `expected` there at least. A target is one of so many objects.
+// The edge where a reader stands, read: `place` is its place in the columns, and an element has the index `expected` there at least. A target is one of so many
+// objects.
 pub fn edge_at(
-    targets: &[u32],
-    codes: &[u16],
-    fields: &[u32],
-    escape_at: &[u64],
-    escape_label: &[u32],
-    at: usize,
+    e: Edges<'_, '_>,
+    coded: Codes<'_>,
     place: usize,
     expected: u32,
     objects: usize,
-) -> ReadEdge
+) -> Result<ReadEdge, Unread>
     ensures { read_edge_says result ≡
-        edge_back objects fields.now escape_at.now escape_label.now place expected (step_at targets.now codes.now at) }
+        edge_back objects coded.entry.fields.now coded.entry.escape_at.now coded.entry.escape_label.now place expected
+        (step_at e.entry.targets.now e.entry.codes.now e.entry.at) }
 {
-    let stands = read(targets, codes, at);
-    match stands {
-        Step::Edge { target, code } => {
-            if objects <= columns::index(target) {
-                return ReadEdge::Bad;
-            }
-            let label = labels::read::read_code(
-                code,
-                place as u64,
-                expected,
-                fields,
-                escape_at,
-                escape_label,
-            );
-            labelled(target, label)
-        }
-        Step::End => ReadEdge::Bad,
+    let Some(Step { target, code }) = next(e) else {
+        return Err(Unread);
+    };
+    if objects <= columns::index(target) {
+        return Err(Unread);
     }
-}
-
-fn labelled(target: u32, label: EdgeLabel) -> ReadEdge
-    ensures { read_edge_says result ≡ with_label target (read_says label) }
-{
-    match label {
-        EdgeLabel::Is(l) => ReadEdge::Edge { target, label: l },
-        EdgeLabel::Bad => ReadEdge::Bad,
-    }
+    let label = labels::read::read_code(
+        code,
+        place as u64,
+        expected,
+        coded.fields,
+        coded.escape_at,
+        coded.escape_label,
+    )?;
+    Ok(ReadEdge { target, label })
 }

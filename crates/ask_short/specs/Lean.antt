@@ -8,6 +8,7 @@ use Rattle.rules.specs.Questions.{Columns}
 use Rattle.labels.specs.Reading.{coded_of, code_back, exact_back}
 use Rattle.ask_span.specs.Graph.{span_in, graph_of}
 use Rattle.ask_label.specs.Labelled.{goes_to, or_columns}
+use Rattle.ask_short.specs.declared.Lean.{Lean}
 
 -- offsets without the long ones
 abbrev pub short_of : List ℕ → List ℕ → Blocked
@@ -42,6 +43,13 @@ module _ {A : Type 0} (read : A → List ℕ) where
 
   abbrev pub lean_edges : A → A → A → A → A → Columns
   lean_edges bases short codes targets fields = lean_of (read bases) (read short) (read codes) (read targets) (read fields) [] []
+
+-- a graph without both, of a value that is lent, and of weak pairs beside it
+abbrev pub lean_with : Lean → List ℕ → List ℕ → Columns
+lean_with c weak_from weak_to = lean_of c.bases.now c.short.now c.codes.now c.targets.now c.fields.now weak_from weak_to
+
+abbrev pub lean_in : Lean → Columns
+lean_in c = lean_with c [] []
 
 -- "`label_of` gives the exact label of the first edge to a target; a target that is no object is not found."
 unfoldable pub label_found : Columns → ℕ → ℕ → List ℕ

@@ -2,60 +2,42 @@
 // that the whole question is to be asked (`ask_edges`). So a host that asks here first lends few columns.
 #![tactic(auto)]
 
-ghost use Rattle.std.specs.Prelude.{◌≡◌, ◌-◌, ◌≤◌, length};
+ghost use Rattle.std.specs.Prelude.{◌≡◌, ◌≤◌, [], cond, leb, length};
 ghost use Rattle.columns.specs.Columns.{cleared};
-ghost use Rattle.columns.specs.Loans.{now_of};
-ghost use Rattle.ask_edges.specs.Object.{edges_found, OwnRead};
-ghost use Rattle.ask_short.specs.Lean.{plain_of, lean_edges};
+ghost use Rattle.ask_edges.specs.Read.{read_edge_says, with_label};
+ghost use Rattle.ask_edges.specs.Object.{edges_found};
+ghost use Rattle.ask_short.specs.Lean.{plain_back, lean_in};
 ghost use Rattle.ask_short_edges.specs.Replied.{EdgesReplied, ShortSettled};
 
-use labels::EdgeLabel;
+use ask_edges::{ReadEdge, read_edges};
+use ask_short::Lean;
+use ask_short::label::read_code;
+use labels::Unread;
 use rules::Span;
 
-// Reads the edges from `start` up to `end` in order, and writes them: how many were read before one that cannot be.
-fn read_plain(
-    edge_codes: &[u16],
-    targets: &[u32],
+// An edge by its target and its code: the target is one of so many objects, and an element has the index `next` at least.
+fn plain_edge(
+    target: u32,
+    code: u16,
+    next: u32,
     fields: &[u32],
-    start: usize,
-    end: usize,
     objects: usize,
-    own_targets: &mut [u32],
-    own_labels: &mut [u32],
-) -> usize
-    requires start_le_end { (start ≤ end) × (end ≤ length edge_codes.now) × (end ≤ length targets.now) }
-    requires start_in_bounds { (end - start ≤ length own_targets.old) × (end - start ≤ length own_labels.old) }
-    ensures { OwnRead objects targets.now (plain_of edge_codes.now fields.now) start (end - start) (end - start) result
-        own_targets.old own_labels.old own_targets.new own_labels.new }
+) -> Result<ReadEdge, Unread>
+    ensures { read_edge_says result ≡ cond (leb objects target) [] (with_label target (plain_back fields.now next code)) }
 {
-    let mut next = 0;
-    let mut k = 0;
-    while k < end - start {
-        let target = targets[start + k];
-        if objects <= columns::index(target) {
-            return k;
-        }
-        match ask_short::label::read_code(edge_codes[start + k], next, fields) {
-            EdgeLabel::Is(label) => {
-                own_targets[k] = target;
-                own_labels[k] = label;
-                next = labels::code::after(label, next);
-                k += 1;
-            }
-            EdgeLabel::Bad => {
-                return k;
-            }
-        }
+    if objects <= columns::index(target) {
+        return Err(Unread);
     }
-    k
+    let label = read_code(code, next, fields)?;
+    Ok(ReadEdge { target, label })
 }
 
 // Clears both columns.
 fn refuse(own_targets: &mut [u32], own_labels: &mut [u32]) -> u64
     ensures { (result ≡ 0) × (own_targets.new ≡ cleared 0 own_targets.old) × (own_labels.new ≡ cleared 0 own_labels.old) }
 {
-    columns::zero_u32(own_targets, 0);
-    columns::zero_u32(own_labels, 0);
+    columns::zero(own_targets, 0);
+    columns::zero(own_labels, 0);
     0
 }
 
@@ -67,48 +49,40 @@ fn settle(count: usize, read: usize, own_targets: &mut [u32], own_labels: &mut [
     if read < count {
         return refuse(own_targets, own_labels);
     }
-    columns::zero_u32(own_targets, count);
-    columns::zero_u32(own_labels, count);
+    columns::zero(own_targets, count);
+    columns::zero(own_labels, count);
     count as u64 + 2
 }
 
 // The targets and the exact labels of all edges of an object, as `ask_edges::object_edges` gives them.
 pub fn object_edges(
-    bases: &[u64],
-    short: &[u16],
-    edge_codes: &[u16],
-    targets: &[u32],
-    fields: &[u32],
+    graph: Lean<'_>,
     object: usize,
     own_targets: &mut [u32],
     own_labels: &mut [u32],
 ) -> u64
-    ensures { let graph = lean_edges now_of bases short edge_codes targets fields in
-        EdgesReplied (edges_found graph object (length own_targets.old) (length own_labels.old)) result own_targets.new own_labels.new }
+    ensures { EdgesReplied (edges_found (lean_in graph.entry) object (length own_targets.old) (length own_labels.old)) result own_targets.new own_labels.new }
 {
-    let at = ask_short::span(bases, short, edge_codes.len(), targets.len(), object);
-    match at {
-        Span::Edges { start, end } => {
-            let count = end - start;
-            if own_targets.len() < count {
-                return refuse(own_targets, own_labels);
-            }
-            if own_labels.len() < count {
-                return refuse(own_targets, own_labels);
-            }
-            let read = read_plain(
-                edge_codes,
-                targets,
-                fields,
-                start,
-                end,
-                short.len() - 1,
-                own_targets,
-                own_labels,
-            );
-            settle(count, read, own_targets, own_labels)
-        }
-        Span::Index(_) => refuse(own_targets, own_labels),
-        Span::Columns(_) => refuse(own_targets, own_labels),
+    let Ok(Span { start, end }) = graph.span(object) else {
+        return refuse(own_targets, own_labels);
+    };
+    let count = end - start;
+    if own_targets.len() < count {
+        return refuse(own_targets, own_labels);
     }
+    if own_labels.len() < count {
+        return refuse(own_targets, own_labels);
+    }
+    let objects = graph.short.len() - 1;
+    let read = read_edges(count, count, own_targets, own_labels, |k, next| {
+        let edge = start + k;
+        plain_edge(
+            graph.targets[edge],
+            graph.codes[edge],
+            next,
+            graph.fields,
+            objects,
+        )
+    });
+    settle(count, read, own_targets, own_labels)
 }

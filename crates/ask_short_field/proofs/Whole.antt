@@ -6,6 +6,7 @@ use mathlib.Core.Bool.{Bool, true, false, cond, false≢true}
 use mathlib.Core.List.{List, [], ◌∷◌}
 use lib.Dec.{eqb}
 use lib.ListN.{length}
+use Rattle.std.specs.Prelude.{None, Some, Ok, Err}
 use borrow.Author.Tests.{lt-ltb}
 use Rattle.columns.specs.Lists.{◌!◌, all_of, first_place}
 use Rattle.columns.specs.Columns.{accepts}
@@ -16,16 +17,14 @@ use Rattle.rules.specs.Questions.{Columns}
 use Rattle.labels.specs.Reading.{coarse_back}
 use Rattle.ask_span.specs.Reading.{weak_rows_of}
 use Rattle.ask_span.specs.Graph.{span_in}
-use Rattle.ask_field.specs.Sought.{stops, decoded, first_sought, element_at, sought_in, sought_target, field_found, first_weak, or_weak, referent_found}
-use Rattle.ask_field.specs.declared.Sought.{Sought}
-use Rattle.ask_field.specs.declared.Sought.TheVariants.{At, Nothing, Bad}
+use Rattle.ask_field.specs.Sought.{Sought, unread, stops, decoded, first_sought, element_at, sought_in, sought_target, field_found, first_weak, or_weak, referent_found}
 use Rattle.ask_field.proofs.Placed.{decoded-bad, decoded-end}
 use Rattle.ask_short.specs.Lean.{plain_coded, leanly}
 use Rattle.ask_short.proofs.Whole.{no_columns, span-whole, coarse-whole, by_span}
 
 -- A walk that reads labels without the escapes, and meets no edge that it cannot read, is the walk that reads them all.
 module _ (d : Coded) (e n l : ℕ) where
-  hit : {k a : ℕ} {xs : List ℕ} → Searching (stops d e l) n k → k < n → coarse_back d (e + k) ≡ a ∷ xs → eqb a l ≡ true → At k ≡ decoded d e n l
+  hit : {k a : ℕ} {xs : List ℕ} → Searching (stops d e l) n k → k < n → coarse_back d (e + k) ≡ a ∷ xs → eqb a l ≡ true → Ok (Some k) ≡ decoded d e n l
   unfolding decoded
   hit {k} {a} {xs} s h r q =
       let is : first_place (stops d e l) n ≡ k = sym (searching_hit (stops d e l) n s h (rw r q)) in
@@ -34,7 +33,7 @@ module _ (d : Coded) (e n l : ℕ) where
   more : {k a : ℕ} {xs : List ℕ} → Searching (stops d e l) n k → k < n → coarse_back d (e + k) ≡ a ∷ xs → eqb a l ≡ false → Searching (stops d e l) n (k + 1)
   more s h r q = searching_more (stops d e l) n s h (rw r q)
 
-module _ (d : Coded) (e n l : ℕ) (good : decoded (plain_coded d) e n l ≡ Bad → ⊥) where
+module _ (d : Coded) (e n l : ℕ) (good : decoded (plain_coded d) e n l ≡ unread → ⊥) where
   step : (k : ℕ) → k < n → Searching (stops (plain_coded d) e l) n k → Searching (stops d e l) n k
       → (Searching (stops (plain_coded d) e l) n (k + 1) → Searching (stops d e l) n (k + 1) → decoded (plain_coded d) e n l ≡ decoded d e n l) → decoded (plain_coded d) e n l ≡ decoded d e n l
   step k h p w onward = go (coarse_back (plain_coded d) (e + k)) refl
@@ -57,22 +56,22 @@ module _ (d : Coded) (e n l : ℕ) (good : decoded (plain_coded d) e n l ≡ Bad
   decoded-whole : decoded (plain_coded d) e n l ≡ decoded d e n l
   decoded-whole = walks n 0 (omega arith) (searching_start (stops (plain_coded d) e l) n) (searching_start (stops d e l) n)
 
-sought_whole : (d : Coded) (e n l : ℕ) → (sought_in (plain_coded d) e n l ≡ Bad → ⊥) → sought_in (plain_coded d) e n l ≡ sought_in d e n l
+sought_whole : (d : Coded) (e n l : ℕ) → (sought_in (plain_coded d) e n l ≡ unread → ⊥) → sought_in (plain_coded d) e n l ≡ sought_in d e n l
 unfolding sought_in
 sought_whole d e n l = go (eqb l array_element_label) (is_element l)
   where
     x : Sought
-    x = first_sought (element_at d e) n
+    x = Ok (first_sought (element_at d e) n)
 
-    go : (a b : Bool) → (cond a x (cond b Nothing (decoded (plain_coded d) e n l)) ≡ Bad → ⊥) → cond a x (cond b Nothing (decoded (plain_coded d) e n l)) ≡ cond a x (cond b Nothing (decoded d e n l))
+    go : (a b : Bool) → (cond a x (cond b (Ok None) (decoded (plain_coded d) e n l)) ≡ unread → ⊥) → cond a x (cond b (Ok None) (decoded (plain_coded d) e n l)) ≡ cond a x (cond b (Ok None) (decoded d e n l))
     go true b q = refl
     go false true q = refl
     go false false q = decoded-whole d e n l q
 
-is_found : (ts : List ℕ) (e o : ℕ) (x y : Sought) → ((x ≡ Bad → ⊥) → x ≡ y) → accepts (sought_target ts e o x) ≡ true → sought_target ts e o x ≡ sought_target ts e o y
-is_found ts e o (At k) y h q = ap (sought_target ts e o) (h (λ r. let z : ◌≡◌ {A = ℕ} 0 1 = cc in absurd (omega arith)))
-is_found ts e o Nothing y h q = ap (sought_target ts e o) (h (λ r. let z : ◌≡◌ {A = ℕ} 0 1 = cc in absurd (omega arith)))
-is_found ts e o Bad y h q = absurd (false≢true (sym (no_columns o) ∙ q))
+is_found : (ts : List ℕ) (e o : ℕ) (x y : Sought) → ((x ≡ unread → ⊥) → x ≡ y) → accepts (sought_target ts e o x) ≡ true → sought_target ts e o x ≡ sought_target ts e o y
+is_found ts e o (Ok (Some k)) y h q = ap (sought_target ts e o) (h (λ r. let z : ◌≡◌ {A = ℕ} 0 1 = cc in absurd (omega arith)))
+is_found ts e o (Ok None) y h q = ap (sought_target ts e o) (h (λ r. let z : ◌≡◌ {A = ℕ} 0 1 = cc in absurd (omega arith)))
+is_found ts e o (Err u) y h q = absurd (false≢true (sym (no_columns o) ∙ q))
 
 module _ (c : Columns) (o l : ℕ) where
   abbrev at : List ℕ

@@ -1,7 +1,7 @@
 -- Spans, parts and weak rows: an answer is in order and inside, and over columns of which the object reads back it is the rules' answer. Assumes nothing.
 use mathlib.Core.Path.{◌≡◌, refl, sym, ap, ◌∙◌}
 use mathlib.Core.Logic.{⊎_elim}
-use mathlib.Core.Bool.{Bool, true, false, cond, false≢true}
+use mathlib.Core.Bool.{Bool, true, false, cond, ◌&&◌, false≢true}
 use mathlib.Core.List.{List, [], ◌∷◌, map}
 use Prim.Native.Nat.{ℕ, suc, ◌+◌, ◌-◌, ◌≤◌, ◌<◌}
 use native.Mathlib.Omega.{arith}
@@ -49,6 +49,19 @@ ended_inside first next codes targets o {a} {b} e = go (all_of (tests first next
         }
     go false h e = absurd (omega (arith, ap (λ (xs : List ℕ). xs ! 0) e))
 
+-- where one of the two offsets is refused
+pub first_refused : (first next : List ℕ) (codes targets o : ℕ) → accepts first ≡ false → 12 ∷ o ∷ [] ≡ ended first next codes targets o
+unfolding ended all_of
+first_refused first next codes targets o f = rw f
+
+pub next_refused : (first next : List ℕ) (codes targets o : ℕ) → accepts next ≡ false → 12 ∷ o ∷ [] ≡ ended first next codes targets o
+unfolding ended all_of
+next_refused first next codes targets o f = rw f (go (accepts first))
+  where
+    go : (b : Bool) → 12 ∷ o ∷ [] ≡ cond (b && false) (0 ∷ first ! 1 ∷ next ! 1 ∷ []) (12 ∷ o ∷ [])
+    go true = refl
+    go false = refl
+
 pub span_inside : (c : Blocked) (codes targets o : ℕ) {a b : ℕ} → span_of c codes targets o ≡ 0 ∷ a ∷ b ∷ [] → Inside codes targets a b
 unfolding span_of
 span_inside c codes targets o {a} {b} e = go (ltb o (length c.short - 1)) e
@@ -65,6 +78,11 @@ span_exists c codes targets o {a} {b} e = go (ltb o (length c.short - 1)) refl e
     go : (t : Bool) → ltb o (length c.short - 1) ≡ t → cond t (ended (read_back c o) (read_back c (o + 1)) codes targets o) (11 ∷ o ∷ []) ≡ 0 ∷ a ∷ b ∷ [] → o < length c.short - 1
     go true h e = ltb-true o (length c.short - 1) h
     go false h e = absurd (omega (arith, ap (λ (xs : List ℕ). xs ! 0) e))
+
+-- a refusal is the count's, too
+pub count_refused : {says : List ℕ} (at : List ℕ) → says ≡ at → accepts says ≡ false → says ≡ count_of at
+unfolding count_of
+count_refused at e f = let z : accepts at ≡ false = ap accepts (sym e) ∙ f in rw z e
 
 -- An answer that is asked of an object and is not COLUMNS was asked of one that reads.
 pub asked_reads : (c : Columns) (o : ℕ) (reads : Bool) (answer says : List ℕ) → (o < objects_in c → reads ≡ true → says ≡ answer) → (objects_in c ≤ o → says ≡ 11 ∷ o ∷ [])

@@ -5,7 +5,7 @@ ghost use Rattle.std.specs.Prelude.{◌≡◌, ◌+◌, ◌^◌, ◌<◌, length
 ghost use Rattle.rules.specs.Types.{weak_says};
 ghost use Rattle.ask_weak.specs.Rows.{weak_end, weak_rows_of};
 
-use rules::WeakReferents;
+use rules::{ReadError, Span};
 
 // Where the rows of an object end that start at `start`. Most objects have none, and then one search is enough.
 fn rows_end(weak_from: &[u32], object: usize, start: usize) -> usize
@@ -18,7 +18,7 @@ fn rows_end(weak_from: &[u32], object: usize, start: usize) -> usize
     if columns::index(weak_from[start]) != object {
         return start;
     }
-    columns::bisect_u32(weak_from, object as u64 + 1)
+    columns::bisect(weak_from, object as u64 + 1)
 }
 
 // The rows of an object's weak pairs: from the first that is not before the object up to the first behind it.
@@ -27,22 +27,22 @@ pub fn weak_referents(
     weak_from: &[u32],
     weak_to: &[u32],
     object: usize,
-) -> WeakReferents
+) -> Result<Span, ReadError>
     ensures { weak_says result ≡ weak_rows_of (length short.now) weak_from.now weak_to.now object }
 {
     if short.len() <= object {
-        return WeakReferents::Index(object);
+        return Err(ReadError::Index(object));
     }
     if short.len() - object < 2 {
-        return WeakReferents::Index(object);
+        return Err(ReadError::Index(object));
     }
-    let start = columns::bisect_u32(weak_from, object as u64);
+    let start = columns::bisect(weak_from, object as u64);
     let end = rows_end(weak_from, object, start);
     if end < start {
-        return WeakReferents::Columns(object);
+        return Err(ReadError::Columns(object));
     }
     if weak_to.len() < end {
-        return WeakReferents::Columns(object);
+        return Err(ReadError::Columns(object));
     }
-    WeakReferents::Rows { start, end }
+    Ok(Span { start, end })
 }

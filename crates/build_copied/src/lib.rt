@@ -7,7 +7,7 @@ ghost use Rattle.rules.specs.Built.{build_left};
 ghost use Rattle.columns.specs.Loans.{now_of, old_of, new_of};
 ghost use Rattle.rules.specs.Tables.{object_table, class_table, slot_table, static_table, schema_of, copied_route, input_of, room_of, coding_room, left_in, coding_left};
 
-use rules::{Built, ReferencePolicy};
+use rules::{Counts, ReferencePolicy, Refusal};
 
 // The build, the hints of the ids standing in the column for short offsets.
 fn hinted(
@@ -55,7 +55,7 @@ fn hinted(
     edge_codes: &mut [u16],
     counting: &mut [u64],
     ranking: &mut [u64],
-) -> Built
+) -> Result<Counts, Refusal>
     ensures { let schema = schema_of (class_table now_of class_ids loaders dumped class_kinds slot_starts slot_ends static_starts static_ends)
         (slot_table now_of slot_offsets slot_labels slot_weak) (static_table now_of static_names static_types static_values) names in
         let route = copied_route now_of codes escape_places escape_ids base starts in
@@ -181,7 +181,7 @@ pub fn build_copied(
     edge_codes: &mut [u16],
     counting: &mut [u64],
     ranking: &mut [u64],
-) -> Built
+) -> Result<Counts, Refusal>
     ensures { let schema = schema_of (class_table now_of class_ids loaders dumped class_kinds slot_starts slot_ends static_starts static_ends)
         (slot_table now_of slot_offsets slot_labels slot_weak) (static_table now_of static_names static_types static_values) names in
         let route = copied_route now_of codes escape_places escape_ids base starts in

@@ -12,9 +12,9 @@ use Rattle.columns.specs.Lists.{◌!◌}
 use Rattle.columns.specs.Columns.{over, accepts}
 use Rattle.columns.proofs.Lists.{tab-at}
 use Rattle.columns.proofs.Written.{begins_over}
-use Rattle.rules.specs.declared.Built.{Built}
-use Rattle.rules.specs.declared.Built.TheVariants as Built
-use Rattle.rules.specs.declared.Checked.{Checked}
+use Rattle.std.specs.Prelude.{Result, Ok, Err}
+use Rattle.rules.specs.declared.Counts.{Counts}
+use Rattle.rules.specs.declared.Refusal.{Refusal}
 use Rattle.rules.specs.Types.{built_says, checked_says, refusal_says}
 use Rattle.rules.specs.Input.{Input, object_count, class_count, classes_at, found_at}
 use Rattle.rules.specs.Edges.{graph, distinct_roots}
@@ -66,13 +66,13 @@ mark_most x o (suc c) = go (found_at x o c) (mark_most x o c)
     go false h = omega arith
 
 -- the answer of the pass, by its numbers
-pass_said : (x : Input) (v : Built)
+pass_said : (x : Input) (v : Result Counts Refusal)
     → built_says (edges_said x v)
     ≡ cond (accepts (built_says v)) (0 ∷ length (graph x).targets ∷ length (graph x).weak_from ∷ built_says v ! 3 ∷ built_says v ! 4 ∷ built_says v ! 5 ∷ built_says v ! 6 ∷ (graph x).dangling ∷ [])
     (built_says v)
 unfolding edges_said accepts
-pass_said x (Built.Done c) = refl
-pass_said x (Built.Refused r) = refused
+pass_said x (Ok c) = refl
+pass_said x (Err r) = refused
   where
     refused : refusal_says r ≡ cond (accepts (refusal_says r)) (0 ∷ length (graph x).targets ∷ length (graph x).weak_from ∷ refusal_says r ! 3 ∷ refusal_says r ! 4 ∷ refusal_says r ! 5 ∷ refusal_says r ! 6 ∷ (graph x).dangling ∷ []) (refusal_says r)
     refused = rw (refusal_refuses r)
@@ -82,17 +82,17 @@ unfolding room_says at
 room_done c w n o e ok none = rw (ok, none)
 
 -- What the checks hand on: their answer with a number that fits where the places do, and the marks.
-pub record Tested (x : Input) (room m p : ℕ) (c : Checked) (w : List ℕ) : Type 0 where
+pub record Tested (x : Input) (room m p : ℕ) (c : Result ℕ Refusal) (w : List ℕ) : Type 0 where
   pub answer : checked_says c ≡ first_of (faults x) (0 ∷ p ∷ [])
   pub fits : accepts (checked_says c) ≡ true → Fits room (place_count x) p
   pub marks : w ≡ marks_left x m
 
 -- A check that counts the places tells just them.
-pub marked : {x : Input} (room : ℕ) {m : ℕ} {c : Checked} {w : List ℕ} → Marked x m c w → Tested x room m (place_count x) c w
+pub marked : {x : Input} (room : ℕ) {m : ℕ} {c : Result ℕ Refusal} {w : List ℕ} → Marked x m c w → Tested x room m (place_count x) c w
 unfolding check_says Fits
 marked room j = record { answer = j.answer; fits = λ ok. inl refl; marks = j.marks }
 
-pub fitted : {x : Input} {room m : ℕ} (a b : ℕ) {c : Checked} {w : List ℕ} (f : Fitted x room m c w) → room ≡ min a b → Tested x (min a b) m f.told c w
+pub fitted : {x : Input} {room m : ℕ} (a b : ℕ) {c : Result ℕ Refusal} {w : List ℕ} (f : Fitted x room m c w) → room ≡ min a b → Tested x (min a b) m f.told c w
 fitted {x} a b f e = record { answer = f.answer; fits = λ ok. rw (← e) f.fits; marks = f.marks }
 
 -- The most that there can be, where it has room.
@@ -111,8 +111,8 @@ told-accepts x p c e ok = rw ((faults_refuse x).none_met (0 ∷ p ∷ []) (ap ac
 
 -- What the stages before the pass say, one after the other: the checks tell a number of places and leave marks, weak pairs and roots are counted, and
 -- then there is room or not.
-pub record Staged (x : Input) (b s : ℕ) (v : Built) (ts₀ ls₀ fs₀ ws₀ rs₀ wk₀ wk₂ rs : List ℕ) : Type 0 where
-  pub check : Checked
+pub record Staged (x : Input) (b s : ℕ) (v : Result Counts Refusal) (ts₀ ls₀ fs₀ ws₀ rs₀ wk₀ wk₂ rs : List ℕ) : Type 0 where
+  pub check : Result ℕ Refusal
   pub told : ℕ
   pub marks : List ℕ
   pub pairs : ℕ
@@ -127,7 +127,7 @@ pub record Staged (x : Input) (b s : ℕ) (v : Built) (ts₀ ls₀ fs₀ ws₀ r
       (early (length ts₀) (length ls₀) (length fs₀) (length ws₀) (length rs) b s (length wk₂))
 
 -- The first half, from that.
-module _ {x : Input} {b s : ℕ} {v : Built} {ts₀ ls₀ fs₀ ws₀ rs₀ wk₀ wk₂ rs : List ℕ} (g : Staged x b s v ts₀ ls₀ fs₀ ws₀ rs₀ wk₀ wk₂ rs) where
+module _ {x : Input} {b s : ℕ} {v : Result Counts Refusal} {ts₀ ls₀ fs₀ ws₀ rs₀ wk₀ wk₂ rs : List ℕ} (g : Staged x b s v ts₀ ls₀ fs₀ ws₀ rs₀ wk₀ wk₂ rs) where
   abbrev e : Early
   e = early (length ts₀) (length ls₀) (length fs₀) (length ws₀) (length rs) b s (length wk₂)
 
@@ -172,7 +172,7 @@ module _ {x : Input} {b s : ℕ} {v : Built} {ts₀ ls₀ fs₀ ws₀ rs₀ wk�
       (g.rooted ok).front (omega (arith, room.working, ap length (g.rooted ok).kept)) (omega (arith, room.roots_out, g.roots_kept, (g.rooted ok).need))
 
   -- the answer, and what is left
-  module _ {r : Built} {ts ls fs ws wk : List ℕ} {a : List (List ℕ)} (edged : Edged x v r ts₀ ls₀ fs₀ ws₀ wk₂ ts ls fs ws wk a) where
+  module _ {r : Result Counts Refusal} {ts ls fs ws wk : List ℕ} {a : List (List ℕ)} (edged : Edged x v r ts₀ ls₀ fs₀ ws₀ wk₂ ts ls fs ws wk a) where
     pass-answer : built_says r ≡ edges_says (built_says v) (graph x)
     unfolding edges_says need_roots
     pass-answer = ap built_says edged.answer ∙ pass_said x v ∙ go (accepts (built_says v)) refl

@@ -1,7 +1,9 @@
 -- The first half of a build: the checks, the needs, ROOM 1 to 4, and the edges. Assumes nothing.
 use Rattle.std.specs.Prelude.{ℕ, ◌≤◌, ◌<◌, ◌≡◌, List, length}
 use Rattle.columns.specs.Lists.{◌!◌}
-use Rattle.rules.specs.declared.Built.{Built}
+use Rattle.rules.specs.declared.Counts.{Counts}
+use Rattle.rules.specs.declared.Refusal.{Refusal}
+use Rattle.std.specs.Prelude.{Result}
 use Rattle.rules.specs.Types.{built_says}
 use Rattle.rules.specs.Input.{Input}
 use Rattle.edge_append.specs.Held.{SlotsIn}
@@ -10,7 +12,7 @@ use Rattle.need_weak.specs.Pairs.{ObjectsIn}
 use Rattle.build_rooms.specs.Stages.{early, half_says, Laid}
 
 -- What it answers, and what it leaves where it accepts; b and s are the lengths lent for bases and short numbers.
-pub record Laying (x : Input) (b s : ℕ) (r : Built) (ts₀ ls₀ fs₀ ws₀ rs₀ wk₀ ts ls fs ws rs wk : List ℕ) (a : List (List ℕ)) : Type 0 where
+pub record Laying (x : Input) (b s : ℕ) (r : Result Counts Refusal) (ts₀ ls₀ fs₀ ws₀ rs₀ wk₀ ts ls fs ws rs wk : List ℕ) (a : List (List ℕ)) : Type 0 where
   pub answer : built_says r ≡ half_says x (early (length ts₀) (length ls₀) (length fs₀) (length ws₀) (length rs₀) b s (length wk₀))
   pub laid : Laid x (built_says r) ts₀ fs₀ ws₀ rs₀ ts ls fs ws rs wk a
 

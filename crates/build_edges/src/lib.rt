@@ -14,28 +14,24 @@ ghost use Rattle.need_weak.specs.Pairs.{copied_total, raw_total};
 ghost use Rattle.rules.specs.Needs.{Fits};
 ghost use Rattle.build_edges.specs.Laying.{Laying, CopiedAsked, RawAsked};
 
-use rules::{Built, Checked, ReferencePolicy};
+use rules::{Counts, ReferencePolicy, Refusal};
 
-fn passed(c: Checked) -> bool
+fn passed(c: Result<usize, Refusal>) -> bool
     ensures { result ≡ accepts (checked_says c) }
 {
-    match c {
-        Checked::Accepted(_) => true,
-        Checked::Refused(_) => false,
-    }
+    c.is_ok()
 }
 
 // The account starts at zero.
 fn begin(account: &mut [[u64; 3]; 4])
     ensures { account.new ≡ no_account }
 {
-    let none: [[u64; 3]; 4] = [[0, 0, 0], [0, 0, 0], [0, 0, 0], [0, 0, 0]];
-    *account = none;
+    *account = [[0; 3]; 4];
 }
 
 // The need of buffer 3, and the roots, of an input that the checks accept.
 fn roots_of(
-    c: Checked,
+    c: Result<usize, Refusal>,
     objects: usize,
     roots: &[u32],
     roots_out: &mut [u32],
@@ -53,7 +49,7 @@ fn roots_of(
 
 // The need of buffer 2, of an input that the checks accept; or, where all weak slots have room, their number, and nothing is looked up.
 fn weak_copied(
-    c: Checked,
+    c: Result<usize, Refusal>,
     weak_from: usize,
     weak_to: usize,
     ids: &[u64],
@@ -111,7 +107,7 @@ fn weak_copied(
 
 // The need of buffer 2, of an input that the checks accept; or, where all weak slots have room, their number, and nothing is looked up.
 fn weak_raw(
-    c: Checked,
+    c: Result<usize, Refusal>,
     weak_from: usize,
     weak_to: usize,
     ids: &[u64],
@@ -204,7 +200,7 @@ pub fn lay_copied(
     roots_out: &mut [u32],
     working: &mut [u64],
     account: &mut [[u64; 3]; 4],
-) -> Built
+) -> Result<Counts, Refusal>
     ensures { let schema = schema_of (class_table now_of class_ids loaders dumped class_kinds slot_starts slot_ends static_starts static_ends)
         (slot_table now_of slot_offsets slot_labels slot_weak) (static_table now_of static_names static_types static_values) names in
         let route = copied_route now_of codes escape_places escape_ids base starts in
@@ -346,7 +342,7 @@ pub fn lay_raw(
     roots_out: &mut [u32],
     working: &mut [u64],
     account: &mut [[u64; 3]; 4],
-) -> Built
+) -> Result<Counts, Refusal>
     ensures { let schema = schema_of (class_table now_of class_ids loaders dumped class_kinds slot_starts slot_ends static_starts static_ends)
         (slot_table now_of slot_offsets slot_labels slot_weak) (static_table now_of static_names static_types static_values) names in
         let route = raw_route now_of bytes size starts bodies in

@@ -1,25 +1,17 @@
 // The second half of a build: what the first half left is coded, and then every column is kept or cleared.
 #![tactic(auto)]
 
-ghost use Rattle.std.specs.Prelude.{◌≡◌, ◌+◌, ◌≤◌, min};
 ghost use Rattle.rules.specs.Types.{built_says};
 ghost use Rattle.columns.specs.Loans.{now_of, old_of, new_of};
 ghost use Rattle.rules.specs.Tables.{coding_room, coding_left};
 ghost use Rattle.labels.specs.Fields.{name_columns};
 ghost use Rattle.build_finish.specs.Rest.{Asked, Rest};
 
-use rules::Built;
-
-// As many of a column's numbers as there are: `more` and one, or all.
-fn up_to(more: usize, len: usize) -> usize
-    ensures { (result ≤ len) × (result ≡ min (more + 1) len) }
-{
-    if more < len { more + 1 } else { len }
-}
+use rules::{Counts, Refusal};
 
 // The offsets of all objects and the labels of all edges stand at the fronts of the work columns: they are coded, and then comes the end.
 pub fn finish(
-    v: Built,
+    v: Result<Counts, Refusal>,
     objects: usize,
     classes: usize,
     slot_starts: &[u32],
@@ -48,7 +40,7 @@ pub fn finish(
     edge_codes: &mut [u16],
     counting: &mut [u64],
     ranking: &mut [u64],
-) -> Built
+) -> Result<Counts, Refusal>
     requires { let named = name_columns (λ x. x.now) slot_starts slot_ends static_starts static_ends slot_labels static_names static_types in
         Asked named classes names objects (built_says v) labels.old working.old }
     ensures { let named = name_columns now_of slot_starts slot_ends static_starts static_ends slot_labels static_names static_types in
@@ -58,8 +50,8 @@ pub fn finish(
         (built_says v) targets.old labels.old weak_from.old weak_to.old roots_out.old working.old account.old room
         (built_says result) targets.new labels.new weak_from.new weak_to.new roots_out.new working.new account.new left }
 {
-    let n = up_to(objects, working.len());
-    let m = build_rooms::least(build_rooms::edges_kept(v), labels.len());
+    let n = objects.saturating_add(1).min(working.len());
+    let m = build_rooms::edges_kept(v).min(labels.len());
     let r = code_columns::code_parts(
         v,
         classes,

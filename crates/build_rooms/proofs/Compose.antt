@@ -1,5 +1,5 @@
 -- How the stages of a build come together: the answer, and all that is left. Assumes nothing.
-use Prim.Native.Nat.{ℕ, suc, ◌+◌, ◌≤◌, min}
+use Prim.Native.Nat.{ℕ, suc, ◌+◌, min}
 use native.Mathlib.Numerals.{add-one}
 use native.Mathlib.Omega.{arith}
 use mathlib.Core.Path.{◌≡◌, refl, sym, ap, ◌∙◌}
@@ -8,7 +8,7 @@ use mathlib.Core.List.{List, [], ◌∷◌, ◌++◌, append_assoc}
 use lib.Dec.{ltb}
 use lib.ListN.{length}
 use Rattle.columns.specs.Lists.{◌!◌, any_of}
-use Rattle.columns.specs.Columns.{zeros, accepts, leaves}
+use Rattle.columns.specs.Columns.{zeros, accepts}
 use Rattle.columns.proofs.Lists.{tab-length}
 use Rattle.columns.proofs.Tests.{append-empty}
 use Rattle.columns.proofs.Written.{cleared_all, settled-column}

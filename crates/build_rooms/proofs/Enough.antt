@@ -2,17 +2,15 @@
 use Prim.Native.Nat.{ℕ, ◌≤◌}
 use native.Mathlib.Omega.{arith}
 use mathlib.Core.Path.{◌≡◌, refl, sym, ap, ◌∙◌}
-use mathlib.Core.Bool.{Bool, true, false, cond, true≢false}
-use mathlib.Core.List.{List, [], ◌∷◌, ◌++◌}
+use mathlib.Core.Bool.{Bool, true, false, true≢false}
+use mathlib.Core.List.{List, [], ◌∷◌}
 use lib.Dec.{ltb}
-use lib.ListN.{length}
 use borrow.Author.Tests.{ltb-false}
 use Rattle.columns.specs.Lists.{◌!◌, any_of}
 use Rattle.columns.specs.Columns.{accepts}
 use Rattle.columns.proofs.Tests.{append-empty}
 use Rattle.store.specs.Blocked.{blocks_of}
 use Rattle.rules.specs.Needs.{buffer}
-use Rattle.rules.specs.Verdict.{first_of, at}
 use Rattle.rules.proofs.Acceptance.{refuse_at, at-empty}
 use Rattle.build_rooms.specs.Stages.{Early, short_early, room_says}
 

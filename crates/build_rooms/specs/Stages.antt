@@ -1,5 +1,5 @@
 -- What the narrow stages of a build answer and leave: ROOM of the first four buffers, and the end. Assumes nothing.
-use Rattle.std.specs.Prelude.{ℕ, ◌+◌, ◌≡◌, true, cond, List, [], ◌∷◌, ◌++◌, ltb, get_or}
+use Rattle.std.specs.Prelude.{Option, None, Some, ℕ, ◌≡◌, true, cond, List, [], ◌∷◌, ◌++◌, ltb}
 use Rattle.columns.specs.Lists.{◌!◌}
 use Rattle.columns.specs.Columns.{over, cleared, accepts, kept, Begins}
 use Rattle.store.specs.Blocked.{blocks_of}
@@ -37,8 +37,12 @@ short_early places weak roots offsets e =
     ++ (buffer 3 (ltb e.roots roots ∷ [])
     ++ buffer 4 (ltb e.bases (blocks_of offsets) ∷ ltb e.short offsets ∷ ltb e.working offsets ∷ [])))
 
-unfoldable pub first_short : ℕ → ℕ → ℕ → ℕ → Early → ℕ
-first_short places weak roots offsets e = get_or (short_early places weak roots offsets e) 0 0
+abbrev pub first : List ℕ → Option ℕ
+first [] = None
+first (k ∷ ks) = Some k
+
+unfoldable pub first_short : ℕ → ℕ → ℕ → ℕ → Early → Option ℕ
+first_short places weak roots offsets e = first (short_early places weak roots offsets e)
 
 -- The answer before the edges, from that of the checks; acceptance has the weak pairs and the roots.
 unfoldable pub room_says : List ℕ → ℕ → ℕ → ℕ → Early → List ℕ

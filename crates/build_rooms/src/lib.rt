@@ -7,16 +7,16 @@ ghost use Rattle.columns.specs.Columns.{kept};
 ghost use Rattle.rules.specs.Types.{checked_says, built_says};
 ghost use Rattle.build_rooms.specs.Stages.{early, first_short, room_says, Settled};
 
-use rules::{Built, Checked, Counts, Refusal};
+use rules::{Counts, Refusal};
 
 // A pair of columns has the room of the shorter.
 pub fn least(a: usize, b: usize) -> usize
     ensures { (result ≤ b) × (result ≡ min a b) }
 {
-    if a < b { a } else { b }
+    a.min(b)
 }
 
-// The first of buffers 1 to 4 that is smaller than its need, or 0.
+// The first of buffers 1 to 4 that is smaller than its need.
 fn first_short(
     places: usize,
     weak: usize,
@@ -30,39 +30,27 @@ fn first_short(
     bases: usize,
     short: usize,
     working: usize,
-) -> usize
+) -> Option<usize>
     ensures { result ≡ first_short places weak roots (objects + 1) (early targets labels weak_from weak_to roots_out bases short working) }
 {
-    if targets < places {
-        return 1;
+    if targets < places || labels < places {
+        return Some(1);
     }
-    if labels < places {
-        return 1;
-    }
-    if weak_from < weak {
-        return 2;
-    }
-    if weak_to < weak {
-        return 2;
+    if weak_from < weak || weak_to < weak {
+        return Some(2);
     }
     if roots_out < roots {
-        return 3;
+        return Some(3);
     }
-    if bases <= objects / 256 {
-        return 4;
+    if bases <= objects / 256 || short <= objects || working <= objects {
+        return Some(4);
     }
-    if short <= objects {
-        return 4;
-    }
-    if working <= objects {
-        return 4;
-    }
-    0
+    None
 }
 
 // The answer before the edges: the refusal of the checks, ROOM 1 to 4, or the numbers that are known by now.
 pub fn first_rooms(
-    checked: Checked,
+    checked: Result<usize, Refusal>,
     weak: usize,
     roots: usize,
     objects: usize,
@@ -74,74 +62,58 @@ pub fn first_rooms(
     bases: usize,
     short: usize,
     working: usize,
-) -> Built
+) -> Result<Counts, Refusal>
     ensures { built_says result ≡ room_says (checked_says checked) weak roots (objects + 1) (early targets labels weak_from weak_to roots_out bases short working) }
 {
-    match checked {
-        Checked::Refused(f) => Built::Refused(f),
-        Checked::Accepted(places) => {
-            let k = first_short(
-                places, weak, roots, objects, targets, labels, weak_from, weak_to, roots_out,
-                bases, short, working,
-            );
-            if 0 < k {
-                return Built::Refused(Refusal::Room(k));
-            }
-            Built::Done(Counts {
-                edges: 0,
-                weak: weak,
-                roots: roots,
-                long: 0,
-                fields: 0,
-                escapes: 0,
-                dangling: 0,
-            })
-        }
+    let places = checked?;
+    if let Some(k) = first_short(
+        places, weak, roots, objects, targets, labels, weak_from, weak_to, roots_out, bases, short,
+        working,
+    ) {
+        return Err(Refusal::Room(k));
     }
+    Ok(Counts {
+        edges: 0,
+        weak,
+        roots,
+        long: 0,
+        fields: 0,
+        escapes: 0,
+        dangling: 0,
+    })
 }
 
 // How many edges, weak pairs and roots an answer keeps: none where it refuses.
-pub fn edges_kept(v: Built) -> usize
+pub fn edges_kept(v: Result<Counts, Refusal>) -> usize
     ensures { result ≡ kept 1 (built_says v) }
 {
-    match v {
-        Built::Done(c) => c.edges,
-        Built::Refused(_) => 0,
-    }
+    v.map_or(0, |c| c.edges)
 }
 
-pub fn weak_kept(v: Built) -> usize
+pub fn weak_kept(v: Result<Counts, Refusal>) -> usize
     ensures { result ≡ kept 2 (built_says v) }
 {
-    match v {
-        Built::Done(c) => c.weak,
-        Built::Refused(_) => 0,
-    }
+    v.map_or(0, |c| c.weak)
 }
 
-pub fn roots_kept(v: Built) -> usize
+pub fn roots_kept(v: Result<Counts, Refusal>) -> usize
     ensures { result ≡ kept 3 (built_says v) }
 {
-    match v {
-        Built::Done(c) => c.roots,
-        Built::Refused(_) => 0,
-    }
+    v.map_or(0, |c| c.roots)
 }
 
 // The account of a refused build is zero.
 fn settle_account(ok: bool, account: &mut [[u64; 3]; 4])
     ensures { account.new ≡ cond ok account.old no_account }
 {
-    if ok {
-        return;
+    if !ok {
+        *account = [[0; 3]; 4];
     }
-    let none: [[u64; 3]; 4] = [[0, 0, 0], [0, 0, 0], [0, 0, 0], [0, 0, 0]];
-    *account = none;
 }
 
 // The work columns are zeroed, and the unused ends of the others: all of them where the answer refuses.
 pub fn settle(
-    v: Built,
+    v: Result<Counts, Refusal>,
     targets: &mut [u32],
     labels: &mut [u32],
     weak_from: &mut [u32],
@@ -156,13 +128,11 @@ pub fn settle(
 {
     let edges = edges_kept(v);
     let weak = weak_kept(v);
-    let ok = rules::accepted(v);
-    columns::zero_u32(targets, edges);
-    columns::zero_u32(labels, 0);
-    columns::zero_u32(weak_from, weak);
-    columns::zero_u32(weak_to, weak);
-    let kept = roots_kept(v);
-    columns::zero_u32(roots_out, kept);
-    columns::zero_u64(working, 0);
-    settle_account(ok, account);
+    columns::zero(targets, edges);
+    columns::zero(labels, 0);
+    columns::zero(weak_from, weak);
+    columns::zero(weak_to, weak);
+    columns::zero(roots_out, roots_kept(v));
+    columns::zero(working, 0);
+    settle_account(v.is_ok(), account);
 }

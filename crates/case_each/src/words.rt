@@ -1,35 +1,44 @@
 // How a question's label and its refusal are written.
-use rules::Label;
-use std::io;
+use rules::{Label, ListError};
+use std::{fmt, io};
 
 // The loader and the elements are named, any other label is its number.
-pub fn label(rt: &impl Print, l: u32) -> io::Result<()> {
-    if l == Label::LOADER {
-        print::word(rt, b"loader")?;
-        return Ok(());
+#[derive(Clone, Copy)]
+pub struct Named(pub u32);
+
+impl fmt::Display for Named {
+    fn fmt<W: fmt::Write>(&self, f: &mut fmt::Formatter<W>) -> fmt::Result {
+        let label = self.0;
+        if label == Label::LOADER {
+            f.write_str("loader")
+        } else if label < Label::ARRAY_ELEMENT {
+            write!(f, "{label}")
+        } else {
+            let index = label - Label::ARRAY_ELEMENT;
+            write!(f, "#{index}")
+        }
     }
-    if l < Label::ARRAY_ELEMENT {
-        print::number(rt, columns::wide(l))?;
-        return Ok(());
-    }
-    print::word(rt, b"#")?;
-    print::number(rt, columns::wide(l - Label::ARRAY_ELEMENT))?;
-    Ok(())
 }
 
-// A question's refusal, by document 01's number: ROOM, INDEX or COLUMNS.
-pub fn fault(rt: &impl Print, number: u64, place: usize) -> io::Result<()> {
-    match number {
-        9 => {
-            print::word(rt, b"room ")?;
-        }
-        11 => {
-            print::word(rt, b"index ")?;
-        }
-        _ => {
-            print::word(rt, b"columns ")?;
+// A refusal by its name, and its place.
+#[derive(Clone, Copy)]
+pub struct Refused(pub ListError);
+
+impl fmt::Display for Refused {
+    fn fmt<W: fmt::Write>(&self, f: &mut fmt::Formatter<W>) -> fmt::Result {
+        match self.0 {
+            ListError::Room(buffer) => write!(f, "room {buffer}"),
+            ListError::Index(at) => write!(f, "index {at}"),
+            ListError::Columns(at) => write!(f, "columns {at}"),
         }
     }
-    print::number(rt, place as u64)?;
-    Ok(())
+}
+
+// A refusal of a question that writes into lent columns, and a mark where it did not leave them zero.
+pub fn refusal(rt: &impl Print, e: ListError, left_zero: bool) -> io::Result<()> {
+    if left_zero {
+        print!(rt; " {}", Refused(e))
+    } else {
+        print!(rt; " {}!", Refused(e))
+    }
 }

@@ -2,7 +2,7 @@
 use crate::lists;
 use case_text::arrays;
 use case_text::fault::Fault;
-use case_text::lists::{of_u32, of_u64};
+use case_text::lists::of;
 use rules::ReferencePolicy;
 
 // The arrays of a case that have an entry for each object or each block at most.
@@ -25,12 +25,6 @@ pub struct Numbers {
     pub several: bool,
 }
 
-#[derive(Clone, Copy)]
-pub enum Sound {
-    Yes,
-    No(Fault),
-}
-
 pub fn policy_of(n: Numbers) -> ReferencePolicy {
     ReferencePolicy {
         soft: n.soft,
@@ -39,12 +33,12 @@ pub fn policy_of(n: Numbers) -> ReferencePolicy {
 }
 
 fn number(xs: &[u64], k: usize) -> u64 {
-    if k < xs.len() { xs[k] } else { 0 }
+    xs.get(k).copied().unwrap_or(0)
 }
 
-pub fn numbers_of<'a>(words: &'a [u64], cuts: &'a [usize]) -> Numbers {
-    let own = of_u64(words, cuts, lists::NUMBERS);
-    let ids = of_u64(words, cuts, lists::IDS);
+pub fn numbers_of(words: &[u64], cuts: &[usize]) -> Numbers {
+    let own = of(words, cuts, lists::NUMBERS);
+    let ids = of(words, cuts, lists::IDS);
     Numbers {
         raw: number(own, 0) == 1,
         soft: number(own, 1) == 1,
@@ -75,8 +69,8 @@ fn sound_numbers(own: &[u64]) -> bool {
 }
 
 // How many policies the case is built under.
-pub fn policies_of<'a>(words: &'a [u64], cuts: &'a [usize]) -> usize {
-    if number(of_u64(words, cuts, lists::NUMBERS), 1) == 2 {
+pub fn policies_of(words: &[u64], cuts: &[usize]) -> usize {
+    if number(of(words, cuts, lists::NUMBERS), 1) == 2 {
         4
     } else {
         1
@@ -122,22 +116,14 @@ fn fits(k: usize, asked: u64) -> bool {
 
 // One set of seventeen rooms or several, none of them over its array.
 fn sound_rooms(asked: &[u64]) -> bool {
-    if asked.len() % 17 != 0 {
-        return false;
-    }
-    let mut k = 0;
-    while k < asked.len() {
-        if !fits(k, asked[k]) {
-            return false;
-        }
-        k += 1;
-    }
-    0 < k
+    !asked.is_empty()
+        && asked.len() % 17 == 0
+        && asked.iter().enumerate().all(|(k, room)| fits(k, *room))
 }
 
 // A set of rooms.
-pub fn rooms_of<'a>(words: &'a [u64], cuts: &'a [usize], set: usize) -> &'a [u64] {
-    let all = of_u64(words, cuts, lists::ROOMS);
+pub fn rooms_of<'a>(words: &'a [u64], cuts: &[usize], set: usize) -> &'a [u64] {
+    let all = of(words, cuts, lists::ROOMS);
     if all.len() / 17 <= set {
         return &all[0..0];
     }
@@ -145,8 +131,8 @@ pub fn rooms_of<'a>(words: &'a [u64], cuts: &'a [usize], set: usize) -> &'a [u64
     &all[start..]
 }
 
-pub fn sets_of<'a>(words: &'a [u64], cuts: &'a [usize]) -> usize {
-    of_u64(words, cuts, lists::ROOMS).len() / 17
+pub fn sets_of(words: &[u64], cuts: &[usize]) -> usize {
+    of(words, cuts, lists::ROOMS).len() / 17
 }
 
 pub fn with_set(mut n: Numbers, set: usize) -> Numbers {
@@ -158,21 +144,21 @@ fn pairs(xs: &[u32]) -> bool {
     xs.len() % 2 == 0
 }
 
-pub fn soundness<'a>(halves: &'a [u32], words: &'a [u64], cuts: &'a [usize]) -> Sound {
-    if !sound_numbers(of_u64(words, cuts, lists::NUMBERS)) {
-        return Sound::No(Fault::WrongNumbers);
+pub fn soundness(halves: &[u32], words: &[u64], cuts: &[usize]) -> Result<(), Fault> {
+    if !sound_numbers(of(words, cuts, lists::NUMBERS)) {
+        return Err(Fault::WrongNumbers);
     }
-    if !sound_rooms(of_u64(words, cuts, lists::ROOMS)) {
-        return Sound::No(Fault::WrongRooms);
+    if !sound_rooms(of(words, cuts, lists::ROOMS)) {
+        return Err(Fault::WrongRooms);
     }
-    if !pairs(of_u32(halves, cuts, lists::FIELD)) {
-        return Sound::No(Fault::OddQuestions);
+    if !pairs(of(halves, cuts, lists::FIELD)) {
+        return Err(Fault::OddQuestions);
     }
-    if !pairs(of_u32(halves, cuts, lists::REFERENT)) {
-        return Sound::No(Fault::OddQuestions);
+    if !pairs(of(halves, cuts, lists::REFERENT)) {
+        return Err(Fault::OddQuestions);
     }
-    if !pairs(of_u32(halves, cuts, lists::LABEL_OF)) {
-        return Sound::No(Fault::OddQuestions);
+    if !pairs(of(halves, cuts, lists::LABEL_OF)) {
+        return Err(Fault::OddQuestions);
     }
-    Sound::Yes
+    Ok(())
 }

@@ -1,6 +1,7 @@
 // The lists of a case, in the order of the text.
+use case_text::fault::Malformed;
 use case_text::lists;
-use case_text::lists::{Listed, Used};
+use case_text::lists::{Listed, Used, Width};
 
 // The lists in the order of the text, which is that of the builds' parameters. The raw route has no fourth list of its own.
 pub const NUMBERS: usize = 0;
@@ -61,29 +62,23 @@ pub const LABEL_OF: usize = 27;
 
 pub const LISTS: usize = 28;
 
-// The width of a list's numbers; 0 for the list that the raw route does not have.
-fn width(raw: bool, k: usize) -> u8 {
+// The width of a list's numbers; the raw route has a list less.
+fn width(raw: bool, k: usize) -> Option<Width> {
     match k {
-        KINDS | DUMPED | CLASS_KINDS | SLOT_WEAK | STATIC_TYPES => 8,
-        NUMBERS | IDS | CLASS_IDS | LOADERS | STATIC_VALUES | ESCAPE_PLACES_OR_STARTS | ROOMS => 64,
-        CODES_OR_BYTES => by_route(raw, 8, 32),
-        ESCAPE_IDS_OR_BODIES => by_route(raw, 32, 64),
-        COPIED_STARTS => by_route(raw, 0, 32),
-        _ => 32,
+        KINDS | DUMPED | CLASS_KINDS | SLOT_WEAK | STATIC_TYPES => Some(Width::Bytes),
+        NUMBERS | IDS | CLASS_IDS | LOADERS | STATIC_VALUES | ESCAPE_PLACES_OR_STARTS | ROOMS => {
+            Some(Width::Words)
+        }
+        CODES_OR_BYTES if raw => Some(Width::Bytes),
+        ESCAPE_IDS_OR_BODIES if !raw => Some(Width::Words),
+        COPIED_STARTS if raw => None,
+        _ => Some(Width::Halves),
     }
-}
-
-fn by_route(raw: bool, of_raw: u8, of_copied: u8) -> u8 {
-    if raw { of_raw } else { of_copied }
 }
 
 // The first number of a case is its route.
 fn is_raw(words: &[u64]) -> bool {
-    if 0 < words.len() {
-        words[0] == 1
-    } else {
-        false
-    }
+    words.first().is_some_and(|route| *route == 1)
 }
 
 // All lists of a case.
@@ -94,28 +89,19 @@ pub fn all(
     halves: &mut [u32],
     words: &mut [u64],
     cuts: &mut [usize],
-) -> Listed {
-    let mut at = from;
-    let mut used = Used {
-        bytes: 0,
-        halves: 0,
-        words: 0,
+) -> Result<Listed, Malformed> {
+    let mut read = Listed {
+        next: from,
+        used: Used::default(),
     };
-    let mut k = 0;
-    while k < LISTS {
-        let width = width(is_raw(words), k);
-        let start = lists::end_of(used, width);
-        match lists::next_list(text, at, bytes, halves, words, used, width) {
-            Listed::Done { next: n, used: u } => {
-                at = n;
-                used = u;
-            }
-            Listed::Bad { at: a, why: w } => {
-                return Listed::Bad { at: a, why: w };
-            }
-        }
-        lists::cut(cuts, k, start, lists::end_of(used, width));
-        k += 1;
+    for k in 0..LISTS {
+        let Some(width) = width(is_raw(words), k) else {
+            lists::cut(cuts, k, 0, 0);
+            continue;
+        };
+        let start = read.used.of(width);
+        read = lists::next_list(text, read.next, bytes, halves, words, read.used, width)?;
+        lists::cut(cuts, k, start, read.used.of(width));
     }
-    Listed::Done { next: at, used }
+    Ok(read)
 }

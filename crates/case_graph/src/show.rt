@@ -1,73 +1,50 @@
 // What is written of a build: the counts, the account, every column lent, the answers, and the incoming side; or the refusal, and whether all that was lent is zero.
 use crate::answers;
 use crate::case::Numbers;
-use case_text::zero::{zero_u16, zero_u32, zero_u64};
-use case_text::{column, form};
-use rules::Counts;
+use ask_span::Graph;
+use case_text::arrays::{blocks, offsets};
+use case_text::column;
+use case_text::column::used;
+use case_text::zero::zero;
+use labels::Codes;
+use rules::{Counts, Refusal};
 use std::io;
+use store::Offsets;
 
-// Document 01's numbers.
-fn refused(rt: &impl Print, number: u64, place: u64) -> io::Result<()> {
-    print::word(rt, b"  refused: ")?;
-    print::number(rt, number)?;
-    print::line(rt, b" at ", place)?;
-    Ok(())
-}
-
-// What a build that is done says.
-fn counts_of(says: [u64; 9]) -> Counts {
-    Counts {
-        edges: says[2] as usize,
-        weak: says[3] as usize,
-        roots: says[4] as usize,
-        long: says[5] as usize,
-        fields: says[6] as usize,
-        escapes: says[7] as usize,
-        dangling: says[8],
-    }
+// Document 01's number of a refusal, and its place.
+fn refused(rt: &impl Print, r: Refusal) -> io::Result<()> {
+    let says = answer_builds::built(Err(r));
+    println!(rt; "  refused: {} at {}", says[1], says[2])
 }
 
 fn counts(rt: &impl Print, c: Counts) -> io::Result<()> {
-    form::fill(
-        rt,
-        b"  done: edges #, weak #, roots #, long #, fields #, escapes #, dangling #\n",
-        &[
-            c.edges as u64,
-            c.weak as u64,
-            c.roots as u64,
-            c.long as u64,
-            c.fields as u64,
-            c.escapes as u64,
-            c.dangling,
-        ],
+    println!(rt;
+        "  done: edges {}, weak {}, roots {}, long {}, fields {}, escapes {}, dangling {}",
+        c.edges, c.weak, c.roots, c.long, c.fields, c.escapes, c.dangling
     )
 }
 
 // What is the same under every policy: edges and weak pairs together, and the ids that no object has.
 fn references(rt: &impl Print, c: Counts) -> io::Result<()> {
-    let edges = c.edges as u64;
-    let weak = c.weak as u64;
-    let sum = std::num::wrapping_add_u64(edges, weak);
-    form::fill(
-        rt,
-        b"  references: edges # + weak # = #, dangling #\n",
-        &[edges, weak, sum, c.dangling],
+    let sum = c.edges.wrapping_add(c.weak);
+    println!(rt;
+        "  references: edges {} + weak {} = {sum}, dangling {}",
+        c.edges, c.weak, c.dangling
     )
 }
 
 // A kind's edges, weak pairs and missing ids.
-fn kind(rt: &impl Print, name: &[u8], row: [u64; 3]) -> io::Result<()> {
-    print::word(rt, name)?;
-    form::fill(rt, b" # # #", &row)
+fn kind(rt: &impl Print, name: &str, row: [u64; 3]) -> io::Result<()> {
+    let [edges, weak, missing] = row;
+    print!(rt; "{name} {edges} {weak} {missing}")
 }
 
 fn account_of(rt: &impl Print, account: [[u64; 3]; 4]) -> io::Result<()> {
-    kind(rt, b"  account: slot", account[0])?;
-    kind(rt, b", element", account[1])?;
-    kind(rt, b", static", account[2])?;
-    kind(rt, b", loader", account[3])?;
-    print::word(rt, b"\n")?;
-    Ok(())
+    kind(rt, "  account: slot", account[0])?;
+    kind(rt, ", element", account[1])?;
+    kind(rt, ", static", account[2])?;
+    kind(rt, ", loader", account[3])?;
+    println!(rt)
 }
 
 // Whether nothing is left of the edges,
@@ -79,28 +56,16 @@ fn zero_edges(
     roots: &[u32],
     working: &[u64],
 ) -> bool {
-    let to_targets = zero_u32(true, targets);
-    let to_labels = zero_u32(to_targets, labels);
-    let to_weak_from = zero_u32(to_labels, weak_from);
-    let to_weak_to = zero_u32(to_weak_from, weak_to);
-    let to_roots = zero_u32(to_weak_to, roots);
-    zero_u64(to_roots, working)
-}
-
-fn zero_row(before: bool, row: [u64; 3]) -> bool {
-    zero_u64(before, &row)
-}
-
-fn zero_account(before: bool, account: [[u64; 3]; 4]) -> bool {
-    let to_slot = zero_row(before, account[0]);
-    let to_element = zero_row(to_slot, account[1]);
-    let to_static = zero_row(to_element, account[2]);
-    zero_row(to_static, account[3])
+    zero(targets)
+        && zero(labels)
+        && zero(weak_from)
+        && zero(weak_to)
+        && zero(roots)
+        && zero(working)
 }
 
 // of the offsets and fields,
 fn zero_offsets(
-    before: bool,
     bases: &[u64],
     short: &[u16],
     long_at: &[u32],
@@ -108,28 +73,18 @@ fn zero_offsets(
     fields: &[u32],
     table: &[u16],
 ) -> bool {
-    let to_bases = zero_u64(before, bases);
-    let to_short = zero_u16(to_bases, short);
-    let to_long_at = zero_u32(to_short, long_at);
-    let to_long_value = zero_u64(to_long_at, long_value);
-    let to_fields = zero_u32(to_long_value, fields);
-    zero_u16(to_fields, table)
+    zero(bases) && zero(short) && zero(long_at) && zero(long_value) && zero(fields) && zero(table)
 }
 
 // and of the codes.
 fn zero_codes(
-    before: bool,
     escape_at: &[u64],
     escape_label: &[u32],
     codes: &[u16],
     counting: &[u64],
     ranking: &[u64],
 ) -> bool {
-    let to_escape_at = zero_u64(before, escape_at);
-    let to_escape_label = zero_u32(to_escape_at, escape_label);
-    let to_codes = zero_u16(to_escape_label, codes);
-    let to_counting = zero_u64(to_codes, counting);
-    zero_u64(to_counting, ranking)
+    zero(escape_at) && zero(escape_label) && zero(codes) && zero(counting) && zero(ranking)
 }
 
 fn edge_columns(
@@ -141,30 +96,55 @@ fn edge_columns(
     roots: &[u32],
     working: &[u64],
 ) -> io::Result<()> {
-    column::of_u32(rt, b"  targets", targets)?;
-    column::of_u32(rt, b"  labels", labels)?;
-    column::of_u32(rt, b"  weak_from", weak_from)?;
-    column::of_u32(rt, b"  weak_to", weak_to)?;
-    column::of_u32(rt, b"  roots", roots)?;
-    column::of_u64(rt, b"  working", working)
+    column::of(rt, "  targets", targets)?;
+    column::of(rt, "  labels", labels)?;
+    column::of(rt, "  weak_from", weak_from)?;
+    column::of(rt, "  weak_to", weak_to)?;
+    column::of(rt, "  roots", roots)?;
+    column::of(rt, "  working", working)
 }
 
-// After a refusal everything lent is zero.
-fn left(rt: &impl Print, zero: bool) -> io::Result<()> {
-    if zero {
-        print::word(rt, b"  left zero\n")?;
-    } else {
-        print::word(rt, b"  left NOT zero\n")?;
+// The used parts of the columns of a graph of so many objects.
+fn used_parts<'a>(
+    c: Counts,
+    objects: usize,
+    targets: &'a [u32],
+    weak_from: &'a [u32],
+    weak_to: &'a [u32],
+    bases: &'a [u64],
+    short: &'a [u16],
+    long_at: &'a [u32],
+    long_value: &'a [u64],
+    fields: &'a [u32],
+    escape_at: &'a [u64],
+    escape_label: &'a [u32],
+    codes: &'a [u16],
+) -> Graph<'a> {
+    Graph {
+        offsets: Offsets {
+            bases: used(bases, blocks(objects)),
+            short: used(short, offsets(objects)),
+            long_at: used(long_at, c.long),
+            long_value: used(long_value, c.long),
+        },
+        targets: used(targets, c.edges),
+        labels: Codes {
+            codes: used(codes, c.edges),
+            fields: used(fields, c.fields),
+            escape_at: used(escape_at, c.escapes),
+            escape_label: used(escape_label, c.escapes),
+        },
+        weak_from: used(weak_from, c.weak),
+        weak_to: used(weak_to, c.weak),
     }
-    Ok(())
 }
 
 // After an acceptance every column is written whole, the questions are asked, and the graph is inverted.
-fn done<'a>(
+fn done(
     rt: &impl Print,
     c: Counts,
-    halves: &'a [u32],
-    cuts: &'a [usize],
+    halves: &[u32],
+    cuts: &[usize],
     n: Numbers,
     targets: &[u32],
     labels: &[u32],
@@ -193,12 +173,9 @@ fn done<'a>(
     edge_columns(rt, targets, labels, weak_from, weak_to, roots, working)?;
     column::offset_columns(rt, bases, short, long_at, long_value, fields, table)?;
     column::code_columns(rt, escape_at, escape_label, codes, counting, ranking)?;
-    answers::all(
-        rt,
+    let graph = used_parts(
         c,
-        halves,
-        cuts,
-        n,
+        n.objects,
         targets,
         weak_from,
         weak_to,
@@ -210,28 +187,16 @@ fn done<'a>(
         escape_at,
         escape_label,
         codes,
-    )?;
-    case_incoming::all(
-        rt,
-        c,
-        n.objects,
-        bases,
-        short,
-        long_at,
-        long_value,
-        codes,
-        targets,
-        fields,
-        escape_at,
-        escape_label,
-    )
+    );
+    answers::all(rt, halves, cuts, n.objects, graph)?;
+    case_incoming::all(rt, n.objects, graph.strong())
 }
 
-pub fn outcome<'a>(
+pub fn outcome(
     rt: &impl Print,
-    says: [u64; 9],
-    halves: &'a [u32],
-    cuts: &'a [usize],
+    answer: Result<Counts, Refusal>,
+    halves: &[u32],
+    cuts: &[usize],
     n: Numbers,
     targets: &[u32],
     labels: &[u32],
@@ -252,40 +217,45 @@ pub fn outcome<'a>(
     counting: &[u64],
     ranking: &[u64],
 ) -> io::Result<()> {
-    if says[1] == 0 {
-        done(
-            rt,
-            counts_of(says),
-            halves,
-            cuts,
-            n,
-            targets,
-            labels,
-            weak_from,
-            weak_to,
-            roots,
-            working,
-            account,
-            bases,
-            short,
-            long_at,
-            long_value,
-            fields,
-            table,
-            escape_at,
-            escape_label,
-            codes,
-            counting,
-            ranking,
-        )?;
-        return Ok(());
+    let r = match answer {
+        Ok(c) => {
+            return done(
+                rt,
+                c,
+                halves,
+                cuts,
+                n,
+                targets,
+                labels,
+                weak_from,
+                weak_to,
+                roots,
+                working,
+                account,
+                bases,
+                short,
+                long_at,
+                long_value,
+                fields,
+                table,
+                escape_at,
+                escape_label,
+                codes,
+                counting,
+                ranking,
+            );
+        }
+        Err(r) => r,
+    };
+    refused(rt, r)?;
+    // Everything that was lent is zero.
+    if zero_edges(targets, labels, weak_from, weak_to, roots, working)
+        && account.iter().all(|row| zero(row))
+        && zero_offsets(bases, short, long_at, long_value, fields, table)
+        && zero_codes(escape_at, escape_label, codes, counting, ranking)
+    {
+        println!(rt; "  left zero")
+    } else {
+        println!(rt; "  left NOT zero")
     }
-    refused(rt, says[1], says[2])?;
-    let edges = zero_edges(targets, labels, weak_from, weak_to, roots, working);
-    let accounted = zero_account(edges, account);
-    let offsets = zero_offsets(accounted, bases, short, long_at, long_value, fields, table);
-    left(
-        rt,
-        zero_codes(offsets, escape_at, escape_label, codes, counting, ranking),
-    )
 }

@@ -1,33 +1,34 @@
-// The turns of a graph: one in ample room, which says how many long rows there are and of which nothing is written; one in just the room needed, which shows the
-// columns; for each of the seven columns one with a number less for it; and one that shows who holds each object.
-use case_text::arrays::EDGES;
+// The turns of a graph, and the rooms of each.
+use case_text::arrays::{EDGES, blocks, offsets};
+use rules::{Inverse, InvertError};
 
-pub(crate) const AMPLE: usize = 0;
+#[derive(Clone, Copy)]
+pub(crate) enum Turn {
+    // In ample room: says how many long rows there are, and nothing of it is written.
+    Ample,
+    // In just the room needed: shows the columns.
+    Exact,
+    // The same, with a number less for one of the seven columns.
+    Less(usize),
+    // Shows who holds each object.
+    Holders,
+}
 
-pub(crate) const EXACT: usize = 1;
-
-// The first of seven.
-pub(crate) const LESS: usize = 2;
-
-pub(crate) const HOLDERS: usize = 9;
-
-pub(crate) const TURNS: usize = 10;
+pub(crate) const TURNS: [Turn; 10] = [
+    Turn::Ample,
+    Turn::Exact,
+    Turn::Less(0),
+    Turn::Less(1),
+    Turn::Less(2),
+    Turn::Less(3),
+    Turn::Less(4),
+    Turn::Less(5),
+    Turn::Less(6),
+    Turn::Holders,
+];
 
 // The arrays that have an entry for each object at most, as those of a case have.
 pub(crate) const ROWS: usize = 4000;
-
-// So many offsets there are, in so many blocks.
-pub(crate) fn offsets(objects: usize) -> usize {
-    if objects < 18446744073709551615 {
-        objects + 1
-    } else {
-        objects
-    }
-}
-
-pub(crate) fn blocks(objects: usize) -> usize {
-    objects / 256 + 1
-}
 
 // All the room that there is, in the order of the columns.
 fn ample() -> [u64; 7] {
@@ -51,36 +52,34 @@ pub(crate) fn needs(edges: usize, objects: usize, long: u64) -> [u64; 7] {
     ]
 }
 
-// The column that has a number less in a turn; none of the seven where all have their room.
-pub(crate) fn column(turn: usize) -> usize {
-    if turn < LESS {
-        return 7;
+impl Turn {
+    // A column that needs no room can have no less.
+    pub(crate) fn is_run(self, needs: [u64; 7]) -> bool {
+        match self {
+            Turn::Less(k) => needs.get(k).is_some_and(|n| 0 < *n),
+            _ => true,
+        }
     }
-    turn - LESS
-}
 
-// A column that needs no room can have no less.
-pub(crate) fn is_run(turn: usize, needs: [u64; 7]) -> bool {
-    let k = column(turn);
-    if k < 7 { 0 < needs[k] } else { true }
-}
-
-fn less(room: u64) -> u64 {
-    if room == 0 { 0 } else { room - 1 }
-}
-
-pub(crate) fn rooms(turn: usize, mut needs: [u64; 7]) -> [u64; 7] {
-    if turn == AMPLE {
-        return ample();
+    pub(crate) fn rooms(self, mut needs: [u64; 7]) -> [u64; 7] {
+        match self {
+            Turn::Ample => ample(),
+            Turn::Less(k) => {
+                if let Some(n) = needs.get_mut(k) {
+                    *n = n.saturating_sub(1);
+                }
+                needs
+            }
+            _ => needs,
+        }
     }
-    let k = column(turn);
-    if k < 7 {
-        needs[k] = less(needs[k]);
-    }
-    needs
-}
 
-// How many long rows there are, behind a turn: the one in ample room says it.
-pub(crate) fn long(turn: usize, before: u64, says: [u64; 4]) -> u64 {
-    if turn == AMPLE { says[3] } else { before }
+    // How many long rows there are, behind the turn: the one in ample room says it.
+    pub(crate) fn long(self, before: u64, answer: Result<Inverse, InvertError>) -> u64 {
+        match (self, answer) {
+            (Turn::Ample, Ok(i)) => i.long as u64,
+            (Turn::Ample, Err(_)) => 0,
+            _ => before,
+        }
+    }
 }

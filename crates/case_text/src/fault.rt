@@ -1,6 +1,5 @@
 // What can be wrong with the text, and how it is told.
-use crate::form;
-use std::io;
+use std::{fmt, io};
 
 #[derive(Clone, Copy)]
 pub enum Fault {
@@ -17,44 +16,63 @@ pub enum Fault {
     TextTooLong,
 }
 
-fn line(f: Fault) -> usize {
-    match f {
-        Fault::NoListYet => 0,
-        Fault::ListTooMany => 1,
-        Fault::ListNotClosed => 2,
-        Fault::TitleNotClosed => 3,
-        Fault::NoNumber => 4,
-        Fault::NumberTooLarge => 5,
-        Fault::TooManyNumbers => 6,
-        Fault::WrongNumbers => 7,
-        Fault::WrongRooms => 8,
-        Fault::OddQuestions => 9,
-        Fault::TextTooLong => 10,
+impl fmt::Display for Fault {
+    fn fmt<W: fmt::Write>(&self, f: &mut fmt::Formatter<W>) -> fmt::Result {
+        f.write_str(match self {
+            Fault::NoListYet => "a list is missing before this place",
+            Fault::ListTooMany => "a list more than a case has",
+            Fault::ListNotClosed => "the list is not closed",
+            Fault::TitleNotClosed => "the title is not closed",
+            Fault::NoNumber => "no number, or one over 64 bits",
+            Fault::NumberTooLarge => "a number that does not fit its column",
+            Fault::TooManyNumbers => "more numbers than there is room for",
+            Fault::WrongNumbers => "the six numbers of the case",
+            Fault::WrongRooms => "the rooms of the case, in sets of seventeen",
+            Fault::OddQuestions => "a question is not a pair",
+            Fault::TextTooLong => "the text is too long",
+        })
     }
 }
 
-// The lines are in the order of the faults.
-fn why(rt: &impl Print, f: Fault) -> io::Result<()> {
-    let lines = b"a list is missing before this place
-a list more than a case has
-the list is not closed
-the title is not closed
-no number, or one over 64 bits
-a number that does not fit its column
-more numbers than there is room for
-the six numbers of the case
-the rooms of the case, in sets of seventeen
-a question is not a pair
-the text is too long
-";
-    print::word(rt, form::line(lines, line(f)))?;
-    print::word(rt, b"\n")?;
-    Ok(())
+// Where the text is malformed, and by what.
+#[derive(Clone, Copy)]
+pub struct Malformed {
+    pub at: usize,
+    pub why: Fault,
 }
 
-pub fn tell(rt: &impl Print, f: Fault, at: usize) -> io::Result<()> {
-    print::word(rt, b"malformed text at byte ")?;
-    print::number(rt, at as u64)?;
-    print::word(rt, b": ")?;
-    why(rt, f)
+impl fmt::Display for Malformed {
+    fn fmt<W: fmt::Write>(&self, f: &mut fmt::Formatter<W>) -> fmt::Result {
+        let at = self.at;
+        let why = self.why;
+        write!(f, "malformed text at byte {at}: {why}")
+    }
+}
+
+// Why a run ends before its text does.
+#[derive(Drop)]
+pub enum Ended {
+    Malformed(Malformed),
+    Io(io::Error),
+}
+
+impl From<Malformed> for Ended {
+    fn from(m: Malformed) -> Ended {
+        Ended::Malformed(m)
+    }
+}
+
+impl From<io::Error> for Ended {
+    fn from(e: io::Error) -> Ended {
+        Ended::Io(e)
+    }
+}
+
+// A run that a malformed text ends is a run; what is wrong with the text is told.
+pub fn tell(rt: &impl Print, run: Result<(), Ended>) -> io::Result<()> {
+    match run {
+        Ok(()) => Ok(()),
+        Err(Ended::Malformed(m)) => println!(rt; "{m}"),
+        Err(Ended::Io(e)) => Err(e),
+    }
 }

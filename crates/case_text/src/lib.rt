@@ -5,8 +5,8 @@
 pub mod arrays;
 pub mod column;
 pub mod fault;
-pub mod form;
 pub mod input;
 pub mod lists;
+pub mod refusal;
 pub mod text;
 pub mod zero;

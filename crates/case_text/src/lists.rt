@@ -1,179 +1,112 @@
 // The lists of a case: their numbers go into three arenas, one for each width. List k begins in its arena at `cuts[2 * k]` and ends at `cuts[2 * k + 1]`.
-use crate::fault::Fault;
+use crate::column::part;
+use crate::fault::{Fault, Malformed};
 use crate::text;
-use crate::text::{Item, ReadItem};
+use crate::text::{Item, Mark};
+use std::num::TryFromIntError;
+
+// Which arena the numbers of a list go into.
+#[derive(Clone, Copy)]
+pub enum Width {
+    Bytes,
+    Halves,
+    Words,
+}
 
 // How much of each arena is used.
-#[derive(Clone, Copy)]
+#[derive(Clone, Copy, Default)]
 pub struct Used {
     pub bytes: usize,
     pub halves: usize,
     pub words: usize,
 }
 
-// Where the numbers of an item end in their arena.
-#[derive(Clone, Copy)]
-pub enum Filled {
-    To(usize),
-    Fault(Fault),
+impl Used {
+    pub fn of(self, width: Width) -> usize {
+        match width {
+            Width::Bytes => self.bytes,
+            Width::Halves => self.halves,
+            Width::Words => self.words,
+        }
+    }
+
+    fn up_to(mut self, width: Width, end: usize) -> Used {
+        match width {
+            Width::Bytes => self.bytes = end,
+            Width::Halves => self.halves = end,
+            Width::Words => self.words = end,
+        }
+        self
+    }
 }
 
-// What reading a list, or all of them, comes to: the place behind, and where the arenas are used up to; or what is wrong, and where.
+// What reading a list, or all of them, comes to: the place behind, and where the arenas are used up to.
 #[derive(Clone, Copy)]
-pub enum Listed {
-    Done { next: usize, used: Used },
-    Bad { at: usize, why: Fault },
+pub struct Listed {
+    pub next: usize,
+    pub used: Used,
 }
 
-// Whether all numbers of an item are `most` at most.
-fn fits(it: Item, most: u64) -> bool {
+impl From<TryFromIntError> for Fault {
+    fn from(_e: TryFromIntError) -> Fault {
+        Fault::NumberTooLarge
+    }
+}
+
+// The last number of an item that has one, if it fits in 64 bits. It is the greatest.
+fn last(it: Item) -> Option<u64> {
+    it.count
+        .saturating_sub(1)
+        .checked_mul(it.step)?
+        .checked_add(it.first)
+}
+
+// The numbers of an item go into an arena, from a place on: where they end in it. If one of them does not fit the arena's width, none is written.
+fn fill<T: Copy + TryFrom<u64, Error = TryFromIntError>>(
+    arena: &mut [T],
+    from: usize,
+    it: Item,
+) -> Result<usize, Fault> {
     if it.count == 0 {
-        return true;
+        return Ok(from);
     }
-    if most < it.first {
-        return false;
-    }
-    if it.step == 0 {
-        return true;
-    }
-    it.count - 1 <= (most - it.first) / it.step
-}
-
-fn filled_to(to: usize, left: u64) -> Filled {
-    if 0 < left {
-        return Filled::Fault(Fault::TooManyNumbers);
-    }
-    Filled::To(to)
-}
-
-fn fill_u8(arena: &mut [u8], from: usize, it: Item) -> Filled {
-    if !fits(it, 255) {
-        return Filled::Fault(Fault::NumberTooLarge);
-    }
+    let _ = T::try_from(last(it).ok_or(Fault::NumberTooLarge)?)?;
+    let end = from
+        .checked_add(it.count as usize)
+        .ok_or(Fault::TooManyNumbers)?;
+    let slots = arena.get_mut(from..end).ok_or(Fault::TooManyNumbers)?;
     let mut value = it.first;
-    let mut left = it.count;
-    let mut i = from;
-    while i < arena.len() {
-        if left == 0 {
-            return Filled::To(i);
-        }
-        arena[i] = (value % 256) as u8;
-        value = std::num::wrapping_add_u64(value, it.step);
-        left -= 1;
-        i += 1;
+    for slot in slots.iter_mut() {
+        *slot = T::try_from(value)?;
+        value = value.wrapping_add(it.step);
     }
-    filled_to(i, left)
+    Ok(end)
 }
 
-fn fill_u32(arena: &mut [u32], from: usize, it: Item) -> Filled {
-    if !fits(it, 4294967295) {
-        return Filled::Fault(Fault::NumberTooLarge);
-    }
-    let mut value = it.first;
-    let mut left = it.count;
-    let mut i = from;
-    while i < arena.len() {
-        if left == 0 {
-            return Filled::To(i);
-        }
-        arena[i] = (value % 4294967296) as u32;
-        value = std::num::wrapping_add_u64(value, it.step);
-        left -= 1;
-        i += 1;
-    }
-    filled_to(i, left)
-}
-
-fn fill_u64(arena: &mut [u64], from: usize, it: Item) -> Filled {
-    if !fits(it, 18446744073709551615) {
-        return Filled::Fault(Fault::NumberTooLarge);
-    }
-    let mut value = it.first;
-    let mut left = it.count;
-    let mut i = from;
-    while i < arena.len() {
-        if left == 0 {
-            return Filled::To(i);
-        }
-        arena[i] = value;
-        value = std::num::wrapping_add_u64(value, it.step);
-        left -= 1;
-        i += 1;
-    }
-    filled_to(i, left)
-}
-
-// The uses of the arenas, when the one of a width is used up to `end`.
-fn used_to(mut used: Used, width: u8, end: usize) -> Used {
-    if width == 8 {
-        used.bytes = end;
-        return used;
-    }
-    if width == 32 {
-        used.halves = end;
-        return used;
-    }
-    used.words = end;
-    used
-}
-
-// After an item that begins at `at` went into the arena of its width.
-fn behind_item(used: Used, width: u8, at: usize, it: Item, f: Filled) -> Listed {
-    match f {
-        Filled::To(end) => Listed::Done {
-            next: it.next,
-            used: used_to(used, width, end),
-        },
-        Filled::Fault(why) => Listed::Bad { at, why },
-    }
-}
-
-// An item that begins at `at` goes into the arena of its width.
+// An item goes into the arena of its width: where it ends there.
 fn put(
     bytes: &mut [u8],
     halves: &mut [u32],
     words: &mut [u64],
     used: Used,
-    width: u8,
-    at: usize,
+    width: Width,
     it: Item,
-) -> Listed {
-    if width == 8 {
-        return behind_item(used, width, at, it, fill_u8(bytes, used.bytes, it));
+) -> Result<usize, Fault> {
+    match width {
+        Width::Bytes => fill(bytes, used.bytes, it),
+        Width::Halves => fill(halves, used.halves, it),
+        Width::Words => fill(words, used.words, it),
     }
-    if width == 32 {
-        return behind_item(used, width, at, it, fill_u32(halves, used.halves, it));
-    }
-    behind_item(used, width, at, it, fill_u64(words, used.words, it))
 }
 
 // Where no item can be read: at the end of the text the list is not closed.
-fn no_item(text: &[u8], at: usize) -> Listed {
-    if text.len() <= at {
-        return Listed::Bad {
-            at,
-            why: Fault::ListNotClosed,
-        };
-    }
-    Listed::Bad {
-        at,
-        why: Fault::NoNumber,
-    }
-}
-
-fn next_item(
-    text: &[u8],
-    at: usize,
-    bytes: &mut [u8],
-    halves: &mut [u32],
-    words: &mut [u64],
-    used: Used,
-    width: u8,
-) -> Listed {
-    match text::item_at(text, at) {
-        ReadItem::Is(it) => put(bytes, halves, words, used, width, at, it),
-        ReadItem::Missing => no_item(text, at),
-    }
+fn no_item(text: &[u8], at: usize) -> Malformed {
+    let why = if at < text.len() {
+        Fault::NoNumber
+    } else {
+        Fault::ListNotClosed
+    };
+    Malformed { at, why }
 }
 
 // A list from behind its bracket on. Every item has a byte at least, so that there are no more turns than bytes.
@@ -184,34 +117,25 @@ fn list(
     halves: &mut [u32],
     words: &mut [u64],
     before: Used,
-    width: u8,
-) -> Listed {
-    let mut at = from;
+    width: Width,
+) -> Result<Listed, Malformed> {
+    let mut next = from;
     let mut used = before;
-    let mut turn = 0;
-    while turn < text.len() {
-        let start = text::seek(text, at, text::ITEM);
-        if text::byte(text, start) == b']' {
-            return Listed::Done {
-                next: text::behind(text, start),
-                used,
-            };
+    for _ in 0..text.len() {
+        let at = text::seek(text, next, Mark::Item);
+        if text::byte(text, at) == b']' {
+            next = text::behind(text, at);
+            return Ok(Listed { next, used });
         }
-        match next_item(text, start, bytes, halves, words, used, width) {
-            Listed::Done { next: n, used: u } => {
-                at = n;
-                used = u;
-            }
-            Listed::Bad { at: a, why: w } => {
-                return Listed::Bad { at: a, why: w };
-            }
-        }
-        turn += 1;
+        let it = text::item_at(text, at).ok_or(no_item(text, at))?;
+        let end = put(bytes, halves, words, used, width, it).map_err(|why| Malformed { at, why })?;
+        used = used.up_to(width, end);
+        next = it.next;
     }
-    no_item(text, text.len())
+    Err(no_item(text, text.len()))
 }
 
-// The next list, after the remarks before it; of width 0 there is none.
+// The next list, after the remarks before it.
 pub fn next_list(
     text: &[u8],
     from: usize,
@@ -219,100 +143,32 @@ pub fn next_list(
     halves: &mut [u32],
     words: &mut [u64],
     used: Used,
-    width: u8,
-) -> Listed {
-    if width == 0 {
-        return Listed::Done { next: from, used };
+    width: Width,
+) -> Result<Listed, Malformed> {
+    let at = text::seek(text, from, Mark::List);
+    if text::byte(text, at) != b'[' {
+        return Err(Malformed {
+            at,
+            why: Fault::NoListYet,
+        });
     }
-    let open = text::seek(text, from, text::LIST);
-    if text::byte(text, open) == b'[' {
-        return list(
-            text,
-            text::behind(text, open),
-            bytes,
-            halves,
-            words,
-            used,
-            width,
-        );
-    }
-    Listed::Bad {
-        at: open,
-        why: Fault::NoListYet,
-    }
-}
-
-// How much is used of the arena that has a width.
-pub fn end_of(used: Used, width: u8) -> usize {
-    if width == 8 {
-        return used.bytes;
-    }
-    if width == 32 {
-        return used.halves;
-    }
-    used.words
-}
-
-fn set(cuts: &mut [usize], at: usize, to: usize) {
-    if at < cuts.len() {
-        cuts[at] = to;
-    }
+    let from = text::behind(text, at);
+    list(text, from, bytes, halves, words, used, width)
 }
 
 // Says where list k begins and ends.
 pub fn cut(cuts: &mut [usize], k: usize, start: usize, end: usize) {
-    if cuts.len() / 2 <= k {
-        return;
-    }
-    set(cuts, 2 * k, start);
-    set(cuts, 2 * k + 1, end);
-}
-
-fn start_of(cuts: &[usize], k: usize) -> usize {
-    if k < cuts.len() / 2 { cuts[2 * k] } else { 0 }
-}
-
-fn past(cuts: &[usize], k: usize) -> usize {
     if k < cuts.len() / 2 {
-        cuts[2 * k + 1]
-    } else {
-        0
+        cuts[2 * k] = start;
+        cuts[2 * k + 1] = end;
     }
 }
 
 // List k of a case, a part of its arena.
-pub fn of_u8<'a>(arena: &'a [u8], cuts: &'a [usize], k: usize) -> &'a [u8] {
-    let start = start_of(cuts, k);
-    let end = past(cuts, k);
-    if end < start {
-        return &arena[0..0];
+pub fn of<'a, T>(arena: &'a [T], cuts: &[usize], k: usize) -> &'a [T] {
+    if k < cuts.len() / 2 {
+        part(arena, cuts[2 * k], cuts[2 * k + 1])
+    } else {
+        &arena[..0]
     }
-    if arena.len() < end {
-        return &arena[0..0];
-    }
-    &arena[start..end]
-}
-
-pub fn of_u32<'a>(arena: &'a [u32], cuts: &'a [usize], k: usize) -> &'a [u32] {
-    let start = start_of(cuts, k);
-    let end = past(cuts, k);
-    if end < start {
-        return &arena[0..0];
-    }
-    if arena.len() < end {
-        return &arena[0..0];
-    }
-    &arena[start..end]
-}
-
-pub fn of_u64<'a>(arena: &'a [u64], cuts: &'a [usize], k: usize) -> &'a [u64] {
-    let start = start_of(cuts, k);
-    let end = past(cuts, k);
-    if end < start {
-        return &arena[0..0];
-    }
-    if arena.len() < end {
-        return &arena[0..0];
-    }
-    &arena[start..end]
 }

@@ -1,17 +1,28 @@
 // Reading the text of the cases: its marks, its numbers, and the items of a list. Every function is total: past the end of the text there is nothing.
 
 // What the search for the next mark stops at.
-pub const TITLE: u8 = 0;
+#[derive(Clone, Copy)]
+pub enum Mark {
+    Title,
+    List,
+    Item,
+}
 
-pub const LIST: u8 = 1;
-
-pub const ITEM: u8 = 2;
+impl Mark {
+    fn stops_at(self, b: u8) -> bool {
+        match self {
+            Mark::Title => b == b'"',
+            Mark::List => matches!(b, b'[' | b'"'),
+            Mark::Item => matches!(b, b']' | b'*' | b'+' | b'"' | b'0'..=b'9'),
+        }
+    }
+}
 
 // A number in the text and the place behind it.
 #[derive(Clone, Copy)]
-pub enum Number {
-    Is { value: u64, next: usize },
-    Missing,
+pub struct Number {
+    pub value: u64,
+    pub next: usize,
 }
 
 // An item of a list: so many numbers, the first of them, the step from each to the next, and the place behind the item.
@@ -23,158 +34,85 @@ pub struct Item {
     pub next: usize,
 }
 
-#[derive(Clone, Copy)]
-pub enum ReadItem {
-    Is(Item),
-    Missing,
-}
-
 // The byte at a place; 0 past the end.
 pub fn byte(text: &[u8], at: usize) -> u8 {
-    if at < text.len() { text[at] } else { 0 }
+    text.get(at).copied().unwrap_or(0)
 }
 
 pub fn behind(text: &[u8], at: usize) -> usize {
     if at < text.len() { at + 1 } else { at }
 }
 
-// What a digit stands for; 10 where the byte is none.
-fn digit(b: u8) -> u64 {
-    if b < 48 {
-        return 10;
-    }
-    if 57 < b {
-        return 10;
-    }
-    digit_value(b - 48)
-}
-
-fn digit_value(d: u8) -> u64 {
-    d as u64
-}
-
-fn stops(b: u8, mark: u8) -> bool {
-    if mark == TITLE {
-        return b == b'"';
-    }
-    if mark == LIST {
-        return b == b'[' || b == b'"';
-    }
-    b == b']' || b == b'*' || b == b'+' || b == b'"' || digit(b) < 10
-}
-
-// The first place from `at` on where a search for a mark stops; the end of the text where there is none.
-pub fn seek(text: &[u8], at: usize, mark: u8) -> usize {
-    let mut i = at;
-    while i < text.len() {
-        if stops(text[i], mark) {
+// The first place from `at` on whose byte is such; the end of the text where there is none.
+pub fn find<F: Fn(u8) -> bool>(text: &[u8], at: usize, is: F) -> usize
+    requires { F.IsAlwaysCallable is }
+{
+    for i in at..text.len() {
+        if is(text[i]) {
             return i;
         }
-        i += 1;
     }
     text.len()
 }
 
-// A number with one digit more, if it fits in 64 bits.
-#[derive(Clone, Copy)]
-enum Grown {
-    Is(u64),
-    TooLarge,
+// The first place from `at` on where a search for a mark stops; the end of the text where there is none.
+pub fn seek(text: &[u8], at: usize, mark: Mark) -> usize {
+    find(text, at, |b| mark.stops_at(b))
 }
 
-// The greatest number of 64 bits is 18446744073709551615.
-fn grow(value: u64, d: u64) -> Grown {
-    if 9 < d {
-        return Grown::TooLarge;
+fn digit(b: u8) -> Option<u64> {
+    match b {
+        b'0'..=b'9' => Some(u64::from(b - b'0')),
+        _ => None,
     }
-    if 1844674407370955160 < value {
-        return grow_last(value, d);
-    }
-    Grown::Is(value * 10 + d)
 }
 
-fn grow_last(value: u64, d: u64) -> Grown {
-    if 1844674407370955161 < value {
-        return Grown::TooLarge;
+// A number from its first place up to the place behind it, unless it has no digit.
+fn number_to(value: u64, at: usize, next: usize) -> Option<Number> {
+    if at < next {
+        Some(Number { value, next })
+    } else {
+        None
     }
-    if 5 < d {
-        return Grown::TooLarge;
-    }
-    Grown::Is(18446744073709551610 + d)
 }
 
-fn number_to(value: u64, at: usize, next: usize) -> Number {
-    if next <= at {
-        return Number::Missing;
-    }
-    Number::Is { value, next }
-}
-
-// The number that begins at a place. Where no digit stands there, or the number passes 64 bits, it is missing.
-fn digits_at(text: &[u8], at: usize) -> Number {
+// The number that begins at a place, if a digit stands there and the number fits in 64 bits.
+fn number_at(text: &[u8], at: usize) -> Option<Number> {
     let mut value: u64 = 0;
-    let mut i = at;
-    while i < text.len() {
-        let d = digit(text[i]);
-        if 9 < d {
+    for i in at..text.len() {
+        let Some(d) = digit(text[i]) else {
             return number_to(value, at, i);
-        }
-        match grow(value, d) {
-            Grown::Is(v) => {
-                value = v;
-            }
-            Grown::TooLarge => {
-                return Number::Missing;
-            }
-        }
-        i += 1;
+        };
+        value = value.checked_mul(10)?.checked_add(d)?;
     }
-    number_to(value, at, i)
+    number_to(value, at, text.len())
 }
 
-// The rest of `n*x+d` behind the sign `+`, of `n*x` behind `*`, and a whole item.
-fn stepped(text: &[u8], at: usize, count: u64, first: u64) -> ReadItem {
-    match digits_at(text, at) {
-        Number::Is { value, next } => ReadItem::Is(Item {
-            count,
-            first,
-            step: value,
-            next,
-        }),
-        Number::Missing => ReadItem::Missing,
+// The item that begins at a place: a number, `n*x` or `n*x+d`.
+pub fn item_at(text: &[u8], at: usize) -> Option<Item> {
+    let n = number_at(text, at)?;
+    if byte(text, n.next) != b'*' {
+        return Some(Item {
+            count: 1,
+            first: n.value,
+            step: 0,
+            next: n.next,
+        });
     }
-}
-
-fn repeated(text: &[u8], at: usize, count: u64) -> ReadItem {
-    match digits_at(text, at) {
-        Number::Is { value, next } => {
-            if byte(text, next) == b'+' {
-                return stepped(text, behind(text, next), count, value);
-            }
-            ReadItem::Is(Item {
-                count,
-                first: value,
-                step: 0,
-                next,
-            })
-        }
-        Number::Missing => ReadItem::Missing,
+    let x = number_at(text, behind(text, n.next))?;
+    if byte(text, x.next) != b'+' {
+        return Some(Item {
+            count: n.value,
+            first: x.value,
+            step: 0,
+            next: x.next,
+        });
     }
-}
-
-pub fn item_at(text: &[u8], at: usize) -> ReadItem {
-    match digits_at(text, at) {
-        Number::Is { value, next } => {
-            if byte(text, next) == b'*' {
-                return repeated(text, behind(text, next), value);
-            }
-            ReadItem::Is(Item {
-                count: 1,
-                first: value,
-                step: 0,
-                next,
-            })
-        }
-        Number::Missing => ReadItem::Missing,
-    }
+    let d = number_at(text, behind(text, x.next))?;
+    Some(Item {
+        count: n.value,
+        first: x.value,
+        step: d.value,
+        next: d.next,
+    })
 }

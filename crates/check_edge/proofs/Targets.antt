@@ -1,5 +1,5 @@
 -- The faults of the targets as the walk tests them. Assumes nothing.
-use mathlib.Core.Path.{◌≡◌, ap}
+use mathlib.Core.Path.{◌≡◌, ap, ◌∙◌}
 use mathlib.Core.Bool.{cond}
 use mathlib.Core.List.{List, [], ◌∷◌, ◌++◌}
 use Prim.Native.Nat.{ℕ, ◌≤◌, ◌<◌, min}
@@ -14,29 +14,23 @@ use Rattle.rules.specs.Verdict.{bad_root}
 use Rattle.rules.specs.Parts.{no_object, bad_targets}
 use Rattle.check_edge.proofs.Firsts.{first_of, first_or_end, none_of_them}
 
--- Where the counts differ, the shorter length is a fault behind all others.
-module _ (objects : ℕ) (targets : List ℕ) (edges : ℕ) where
-  both : (n : ℕ) → min (length targets) edges ≡ n → bad_targets objects targets edges ≡ places (no_object objects targets) n ++ cond (eqb (length targets) edges) [] (n ∷ [])
+-- Where the counts differ, the shorter length is a fault behind all others. The targets that are tested are the first ones, as many as there are labels.
+module _ (objects : ℕ) (targets : List ℕ) (edges : ℕ) {n e : ℕ} (m : n ≡ min (length targets) edges) (q : e ≡ first_place (bad_root objects (take n targets)) (length (take n targets))) where
+  both : bad_targets objects targets edges ≡ places (no_object objects targets) n ++ cond (eqb (length targets) edges) [] (n ∷ [])
   unfolding bad_targets
-  both n e = rw e
+  both = rw (← m)
 
-  -- the targets that have labels are the first ones
-  front : edges ≤ length targets → first_place (bad_root objects (take edges targets)) (length (take edges targets)) ≡ first_place (no_object objects targets) edges
-  front l =
-      rw (length-take-le edges targets l)
-      (ap (λ (xs : List ℕ). get_or xs 0 edges) (places_ext (bad_root objects (take edges targets)) (no_object objects targets) edges (λ i m. rw (get_or-take edges targets i 0 m))))
+  front : e ≡ first_place (no_object objects targets) n
+  front =
+      let l : n ≤ length targets = omega arith in
+      q ∙ rw (length-take-le n targets l)
+      (ap (λ (xs : List ℕ). get_or xs 0 n) (places_ext (bad_root objects (take n targets)) (no_object objects targets) n (λ i k. rw (get_or-take n targets i 0 k))))
 
-  pub targets_more : {e : ℕ} → edges < length targets → e ≡ first_place (bad_root objects (take edges targets)) (length (take edges targets)) → e ∷ [] ≡ take 1 (bad_targets objects targets edges)
-  targets_more l q =
-      rw (both edges (omega arith), ne_eqb (length targets) edges (λ z. omega arith), q, front (omega arith)) (first_or_end (no_object objects targets) edges)
+  pub target_bad : e < n → e ∷ [] ≡ take 1 (bad_targets objects targets edges)
+  target_bad k = rw (both, front) (first_of (no_object objects targets) n _ (rw front at k))
 
-  module _ (l : length targets ≤ edges) {e : ℕ} (q : e ≡ first_place (bad_root objects targets) (length targets)) where
-    pub targets-bad : e < length targets → e ∷ [] ≡ take 1 (bad_targets objects targets edges)
-    targets-bad k = rw (both (length targets) (omega arith), q) (first_of (no_object objects targets) (length targets) _ (rw q at k))
+  pub target_uneven : (length targets ≡ edges → ⊥) → e ∷ [] ≡ take 1 (bad_targets objects targets edges)
+  target_uneven k = rw (both, ne_eqb (length targets) edges k, front) (first_or_end (no_object objects targets) n)
 
-    pub targets_few : length targets < edges → e ∷ [] ≡ take 1 (bad_targets objects targets edges)
-    targets_few k = rw (both (length targets) (omega arith), ne_eqb (length targets) edges (λ z. omega arith), q) (first_or_end (no_object objects targets) (length targets))
-
-    pub targets_clean : length targets ≤ e → edges ≤ length targets → [] ≡ take 1 (bad_targets objects targets edges)
-    targets_clean k m =
-        rw (both (length targets) (omega arith), eq-eqb (length targets) edges (omega arith), none_of_them (no_object objects targets) (length targets) (rw q at k))
+  pub target_none : n ≤ e → length targets ≡ edges → [] ≡ take 1 (bad_targets objects targets edges)
+  target_none k z = rw (both, eq-eqb (length targets) edges z, none_of_them (no_object objects targets) n (rw front at k))

@@ -6,7 +6,6 @@ ghost use Rattle.check_ids.specs.Copying.{fault_says};
 ghost use Rattle.rules.specs.Parts.{bad_targets};
 ghost use Rattle.check_edge.specs.Edge.{label_fault};
 
-use check_ids::copied::Fault;
 use check_tables::objects;
 use rules::Label;
 
@@ -24,19 +23,13 @@ pub fn label_fault(names: usize, next: u32, label: u32) -> bool
 }
 
 // The first fault of the targets, of which there are to be as many as labels.
-pub fn first_target(targets: &[u32], edges: usize, objects: usize) -> Fault
+pub fn first_target(targets: &[u32], edges: usize, objects: usize) -> Option<usize>
     ensures { fault_says result ≡ take 1 (bad_targets objects targets.now edges) }
 {
-    if edges < targets.len() {
-        let e = objects::first_root(&targets[..edges], objects);
-        return Fault::At(e);
+    let n = targets.len().min(edges);
+    let e = objects::first_root(&targets[..n], objects);
+    if e < n || targets.len() != edges {
+        return Some(e);
     }
-    let e = objects::first_root(targets, objects);
-    if e < targets.len() {
-        return Fault::At(e);
-    }
-    if targets.len() < edges {
-        return Fault::At(e);
-    }
-    Fault::Nothing
+    None
 }

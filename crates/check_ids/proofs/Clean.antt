@@ -15,7 +15,6 @@ use Rattle.columns.specs.Ranks.{Rises, rank}
 use Rattle.columns.proofs.Lists.{lt_or_ge, first_none}
 use Rattle.columns.proofs.Ranks.{rank-zero, rank_is, rank-next-hit, rank-next_miss, past_end}
 use Rattle.columns.proofs.Tests.{none_of, each_of, no_places}
-use Rattle.columns.proofs.Sums.{total_more, total-end, one_few}
 use Rattle.index.specs.Copied.{Ids, escaped_code}
 use Rattle.rules.specs.Verdict.{bad_code, bad_escape}
 use Rattle.check_tables.proofs.Even.{two_none}
@@ -26,16 +25,6 @@ use Rattle.check_ids.specs.Copying.{has_row, escape_id, code_fault, walk_faults,
 pub record Counted (t : ℕ → Bool) (i s : ℕ) : Type 0 where
   pub sum : s ≡ total (λ k. one (t k)) i
   pub small : s ≤ i
-
-module _ (t : ℕ → Bool) where
-  pub counted_start : Counted t 0 0
-  counted_start = record { sum = refl; small = zero-le }
-
-  pub counted_more : {i s v : ℕ} → Counted t i s → v ≡ one (t i) → Counted t (i + 1) (s + v)
-  counted_more {i} {s} {v} c e = record { sum = total_more (λ k. one (t k)) i c.sum e; small = omega (arith, c.small, one_few (t i)) }
-
-  pub counted-end : {n i s : ℕ} → Counted t i s → i ≤ n → n ≤ i → s ≡ total (λ k. one (t k)) n
-  counted-end c l m = total-end (λ k. one (t k)) c.sum l m
 
 -- from a base that no code can lead astray, a code is at fault only as an escape
 code_clean : (code base id : ℕ) → code ≤ escaped_code → base_fault base ≡ false → (code ≡ escaped_code → id ≡ 0 → ⊥) → code_fault code base id ≡ false

@@ -19,6 +19,7 @@ use Rattle.columns.proofs.Tests.{each_of, second_fails, no_places}
 use Rattle.index.specs.Copied.{Ids, escaped_code, id_back, escape_back, whole}
 use Rattle.rules.specs.Input.{Route.copied}
 use Rattle.rules.specs.Verdict.{falls, bad_code, bad_escape, bad_copied}
+use Rattle.check_tables.proofs.Laws.{no_fall_rises}
 use Rattle.check_ids.specs.Copying.{has_row, escape_id, code_fault, good_on, walk_faults}
 
 -- a row that is there is inside, and its place is the position; one that is not there is outside or has another place
@@ -105,6 +106,11 @@ module _ (c : Ids) (rise : Rises c.places) (even : length c.ids ≡ length c.pla
     stuck = λ l. absurd (omega arith);
   }
 
+  -- what the test of a code tells, with the id of its escape
+  pub walk_bad : {p rows good id : ℕ} {r : Bool} → Walk c p rows good → p < length c.codes → c.ids ! rows < 2 ^ 64 → id ≡ escape_id c.places c.ids rows p
+      → r ≡ code_fault (c.codes ! p) c.base id → bad_code c p ≡ r
+  walk_bad {p} {rows} w l small ei er = code_fault_lem p rows l w.passed small ∙ rw (← ei) (sym er)
+
   -- one position on, without a row
   walk_miss : {p rows good : ℕ} → Walk c p rows good → p < length c.codes → bad_code c p ≡ false → has_row c.places rows p ≡ false → Walk c (p + 1) rows good
   walk_miss {p} {rows} w l h r = record {
@@ -174,6 +180,9 @@ module _ (c : Ids) (rise : Rises c.places) (even : length c.ids ≡ length c.pla
   unfolding walk_faults
   walk_clean w l m = first_nowhere _ _ w.escapes m ∙ first-later _ _ w.codes _ l
 
+pub copied_rises : (ps : List ℕ) {p : ℕ} → p ≡ first_place (falls ps) (length ps) → length ps ≤ p → Rises ps
+copied_rises ps e l = no_fall_rises ps (omega arith)
+
 -- Escapes that do not rise come first.
 module _ (c : Ids) where
   abbrev n : ℕ
@@ -187,6 +196,7 @@ module _ (c : Ids) where
       go [] e = absurd (omega arith)
       go (x ∷ xs) e = rw e
 
-  pub copied_walk : n ≤ first_place (falls c.places) n → take 1 (walk_faults c) ≡ take 1 (bad_copied (copied (record { ids = c; starts = [] })))
+  -- where none falls, the walk finds the first fault
+  pub copied_walk : {p : ℕ} → p ≡ first_place (falls c.places) n → n ≤ p → take 1 (walk_faults c) ≡ take 1 (bad_copied (copied (record { ids = c; starts = [] })))
   unfolding bad_copied walk_faults
-  copied_walk l = rw (no_places (falls c.places) n (λ i. first_none (falls c.places) n i l))
+  copied_walk e l = rw (no_places (falls c.places) n (λ i. first_none (falls c.places) n i (omega arith)))

@@ -1,21 +1,17 @@
 -- The check of copied ids, the rule `bad_copied`, restated as a walk along codes and escapes together makes it, and by counts. Each comment names the rule
 -- and the law that ties the two (`proofs/Walking.antt`, `proofs/Clean.antt`). Assumes nothing.
-use Rattle.std.specs.Prelude.{ℕ, ◌+◌, ◌-◌, ◌*◌, ◌^◌, ◌≡◌, Bool, false, cond, not, List, [], ◌∷◌, ◌++◌, eqb, leb, ltb, length, take}
+use Rattle.std.specs.Prelude.{ℕ, ◌+◌, ◌-◌, ◌*◌, ◌^◌, ◌≡◌, Bool, false, cond, not, List, [], ◌∷◌, ◌++◌, Option, Some, None, Result, Ok, Err, eqb, leb, ltb, length, take}
 use Rattle.columns.specs.Lists.{◌!◌, all_of, any_of, places, first_place, one, total}
 use Rattle.index.specs.Copied.{Ids, escaped_code}
 use Rattle.rules.specs.Input.{Route}
 use Rattle.rules.specs.Tables.{copied_route}
 use Rattle.check_tables.specs.Reads.{own}
 use Rattle.rules.specs.Verdict.{bad_code, bad_escape}
-use Rattle.check_ids.specs.declared.copied.Fault.{Fault}
-use Rattle.check_ids.specs.declared.copied.Fault.TheVariants.{At, Nothing}
-use Rattle.check_ids.specs.declared.copied.Tested.{Tested}
-use Rattle.check_ids.specs.declared.copied.Tested.TheVariants as tested
 
 -- the place of a fault, as a list of none or one
-abbrev pub fault_says : Fault → List ℕ
-fault_says (At p) = p ∷ []
-fault_says Nothing = []
+abbrev pub fault_says : Option ℕ → List ℕ
+fault_says (Some p) = p ∷ []
+fault_says None = []
 
 -- whether row k is the escape of position p (laws `row_within`, `row-place`, `row_other`), and the id there, 0 where it is not
 unfoldable pub has_row : List ℕ → ℕ → ℕ → Bool
@@ -66,14 +62,14 @@ is_clean c escaped =
     all_of (eqb escaped n ∷ not (base_fault c.base) ∷ leb n (first_place (escape_fault c.codes c.places c.ids) n) ∷ [])
 
 -- What the check answers: the place of the first fault, and where there is none, how many codes are not 0.
-abbrev pub tested_says : Tested → List ℕ
-tested_says (tested.At p) = p ∷ []
-tested_says (tested.Held n) = []
+abbrev pub tested_says : Result ℕ ℕ → List ℕ
+tested_says (Err p) = p ∷ []
+tested_says (Ok n) = []
 
-abbrev pub held_says : Tested → ℕ → ℕ
-held_says (tested.At p) n = n
-held_says (tested.Held m) n = m
+abbrev pub held_says : Result ℕ ℕ → ℕ → ℕ
+held_says (Err p) n = n
+held_says (Ok m) n = m
 
-pub record TestedCodes (faults codes : List ℕ) (r : Tested) : Type 0 where
+pub record TestedCodes (faults codes : List ℕ) (r : Result ℕ ℕ) : Type 0 where
   pub fault : tested_says r ≡ take 1 faults
   pub held : held_says r (held_codes codes) ≡ held_codes codes

@@ -5,24 +5,20 @@ ghost use Rattle.rules.specs.Verdict.{bad_span};
 ghost use Rattle.check_ids.specs.Spans.{slots_of, part_length, copied_span_fault, raw_span_fault, copied_spans, raw_spans};
 
 // How many slots an object's class has, 0 for what is no instance.
+#[tactic(auto, unfolding(crate::specs::Spans::slots_of))]
 pub fn slots_of(kind: u8, class: u32, slot_starts: &[u32], slot_ends: &[u32]) -> u32
     requires { length slot_ends.now ≡ length slot_starts.now }
     ensures { result ≡ slots_of kind class slot_starts.now slot_ends.now }
 {
-    if 0 < kind {
-        return 0;
-    }
     let c = columns::index(class);
-    if slot_starts.len() <= c {
+    if 0 < kind || slot_starts.len() <= c {
         return 0;
     }
-    if slot_ends[c] <= slot_starts[c] {
-        return 0;
-    }
-    slot_ends[c] - slot_starts[c]
+    slot_ends[c].saturating_sub(slot_starts[c])
 }
 
 // The length of an object's part of the codes: its slots or its elements.
+#[tactic(auto, unfolding(crate::specs::Spans::slots_of, crate::specs::Spans::part_length))]
 pub fn part_of(kind: u8, class: u32, len: u32, slot_starts: &[u32], slot_ends: &[u32]) -> u32
     requires { length slot_ends.now ≡ length slot_starts.now }
     ensures { result ≡ part_length kind class len slot_starts.now slot_ends.now }
@@ -33,16 +29,11 @@ pub fn part_of(kind: u8, class: u32, len: u32, slot_starts: &[u32], slot_ends: &
     slots_of(kind, class, slot_starts, slot_ends)
 }
 
+#[tactic(auto, unfolding(crate::specs::Spans::copied_span_fault, columns::specs::Lists::all_of))]
 fn copied_fault(kind: u8, start: u32, part: u32, codes: usize) -> bool
     ensures { result ≡ copied_span_fault kind start part codes }
 {
-    if 1 < kind {
-        return false;
-    }
-    if (codes as u64) < columns::wide(start) + columns::wide(part) {
-        return true;
-    }
-    false
+    kind < 2 && (codes as u64) < u64::from(start) + u64::from(part)
 }
 
 // The first object whose part ends past the codes, or the number of objects.
@@ -62,38 +53,25 @@ pub fn first_copied_span(
     ensures { result ≡ first_place (bad_span (copied_spans kinds.now classes.now lengths.now slot_starts.now slot_ends.now
         codes.now starts.now)) (length kinds.now) }
 {
-    let mut o = 0;
-    while o < kinds.len() {
+    for o in 0..kinds.len() {
         let part = part_of(kinds[o], classes[o], lengths[o], slot_starts, slot_ends);
         if copied_fault(kinds[o], starts[o], part, codes.len()) {
             return o;
         }
-        o += 1;
     }
-    o
+    kinds.len()
 }
 
 // The end of a part is not summed, as it may pass 64 bits.
+#[tactic(auto, unfolding(crate::specs::Spans::raw_span_fault, columns::specs::Lists::all_of, columns::specs::Lists::any_of))]
 fn raw_fault(kind: u8, len: u32, start: u64, body: u32, bytes: usize, size: usize) -> bool
     requires { size ≤ 8 }
     ensures { result ≡ raw_span_fault kind len start body bytes size }
 {
-    if 1 < kind {
-        return false;
-    }
-    if (bytes as u64) < start {
-        return true;
-    }
-    if bytes as u64 - start < columns::wide(body) {
-        return true;
-    }
-    if kind == 0 {
-        return false;
-    }
-    if columns::index(body) == columns::index(len) * size {
-        return false;
-    }
-    true
+    kind < 2
+        && ((bytes as u64) < start
+            || bytes as u64 - start < u64::from(body)
+            || (kind == 1 && columns::index(body) != columns::index(len) * size))
 }
 
 // The first object whose body ends past the bytes, or is not its elements' ids, or the number of objects.
@@ -111,8 +89,7 @@ pub fn first_raw_span(
     requires size_bound { size ≤ 8 }
     ensures { result ≡ first_place (bad_span (raw_spans kinds.now lengths.now bytes.now size starts.now bodies.now)) (length kinds.now) }
 {
-    let mut o = 0;
-    while o < kinds.len() {
+    for o in 0..kinds.len() {
         if raw_fault(
             kinds[o],
             lengths[o],
@@ -123,7 +100,6 @@ pub fn first_raw_span(
         ) {
             return o;
         }
-        o += 1;
     }
-    o
+    kinds.len()
 }

@@ -12,17 +12,24 @@ use Rattle.columns.specs.Lists.{◌!◌, places, all_of}
 use Rattle.columns.specs.Columns.{zeros, accepts}
 use Rattle.columns.proofs.Sums.{tab_ext}
 use Rattle.columns.proofs.Parts.{places_ext}
+use Rattle.std.specs.Prelude.{Result, Ok, Err, is_ok}
+use Rattle.rules.specs.declared.Refusal.{Refusal}
+use Rattle.rules.specs.Types.{refusal_says, checked_says}
+use Rattle.rules.proofs.Types.{refusal_refuses}
+use Rattle.check_tables.specs.Reads.{no_policy}
 use Rattle.rules.specs.declared.ReferencePolicy.{ReferencePolicy}
 use Rattle.rules.specs.Input.{Input, Route, Route.copied, Route.raw, object_count, class_count, slot_count, element_count, found_at}
 use Rattle.rules.specs.Places.{place_count}
 use Rattle.rules.specs.Verdict.{first_of, at, once, bad_lengths, bad_limit, bad_object, bad_dumped, bad_copied, bad_span, bad_part, bad_root, over_places, faults, check_says}
 use Rattle.rules.specs.Needs.{Fits}
+use Rattle.rules.proofs.Acceptance.{Sound}
 use Rattle.rules.proofs.First.{first-append, first-once}
 use Rattle.check_tables.specs.Found.{find_columns, mark_to, mark_at, marks, marks_if}
-use Rattle.check_input.specs.Flat.{faults_late, faults_before, counted_says, PlacesCounted, marks_left}
+use Rattle.check_input.specs.Flat.{faults_late, counted_says, faults_before, Counted, Fitted, marks_left}
 use Rattle.check_whole.specs.Whole.{limit_says, allowed}
 use Rattle.check_whole.proofs.Narrow.{same_dumped}
-use Rattle.check_input.proofs.Sound.{before_refuse}
+use Rattle.check_input.proofs.Chain.{refused_first}
+use Rattle.check_input.proofs.Sound.{before_refuse, before_sound}
 
 -- The tests before PLACES do not read the policy.
 abbrev pub with_policy : Input → ReferencePolicy → Input
@@ -72,6 +79,7 @@ module _ (x : Input) where
       ∙ first-append (faults_before x) (at 8 (once (over_places (place_count x)))) (0 ∷ told ∷ [])
       ∙ ap (first_of (faults_before x)) (first-once 8 (over_places (place_count x)) (0 ∷ told ∷ []))
 
+  -- what is answered is the first of all faults, or the number told: by the tests before, then by PLACES
   pub joined : (held n k told : ℕ) {tested answer : List ℕ} → tested ≡ first_of (faults_before x) (0 ∷ held ∷ []) → (accepts tested ≡ true → place_count x ≡ n)
       → (accepts tested ≡ true → told ≡ k) → answer ≡ counted_says tested n k → answer ≡ first_of (faults x) (0 ∷ told ∷ [])
   unfolding counted_says accepts
@@ -94,41 +102,7 @@ module _ (x : Input) where
       go [] = refl
       go (f ∷ fs) = refl
 
-  -- the number told for the places: where the tests before accept, what was counted
-  abbrev pub told_for : List ℕ → ℕ → ℕ
-  told_for tested k = cond (accepts tested) k (place_count x)
-
-  pub told-counted : (tested : List ℕ) (k : ℕ) → accepts tested ≡ true → told_for tested k ≡ k
-  told-counted tested k h = rw h
-
-  pub told-fits : (room n k : ℕ) (tested : List ℕ) → (accepts tested ≡ true → place_count x ≡ n) → Fits room n k → Fits room (place_count x) (told_for tested k)
-  told-fits room n k tested same f = go (accepts tested) refl
-    where
-      go : (b : Bool) → accepts tested ≡ b → Fits room (place_count x) (cond b k (place_count x))
-      go true e = rw (same e) f
-      go false e = fits_need room (place_count x)
-
--- PLACES is tested where the tests before accept; an answer that accepts had accepted before
-pub counted_on : (tested : List ℕ) {k n : ℕ} {answer : List ℕ} → accepts tested ≡ true → k ≡ n → answer ≡ limit_says k k → answer ≡ counted_says tested n n
-unfolding counted_says
-counted_on tested h e a = a ∙ rw (e, h)
-
-pub counted_not : (tested : List ℕ) (n k : ℕ) → accepts tested ≡ false → tested ≡ counted_says tested n k
-unfolding counted_says
-counted_not tested n k h = rw h
-
-pub counted-before : (n k : ℕ) (tested : List ℕ) {answer : List ℕ} → answer ≡ counted_says tested n k → accepts answer ≡ true → accepts tested ≡ true
-unfolding counted_says
-counted-before n k tested {answer} e a = go (accepts tested) refl (ap accepts (sym e) ∙ a)
-  where
-    go : (b : Bool) → accepts tested ≡ b → accepts (cond b (limit_says n k) tested) ≡ true → b ≡ true
-    go true eb h = refl
-    go false eb h = absurd (false≢true (sym eb ∙ h))
-
--- the same, where only so much room matters: what fits the room that is allowed is not over the limit
-pub not_counted : (tested : List ℕ) (room n : ℕ) {answer : List ℕ} → tested ≡ answer → accepts tested ≡ false → PlacesCounted tested room n answer
-not_counted tested room n e h = record { told = n; fits = fits_need room n; answer = sym e ∙ counted_not tested n n h }
-
+-- what fits the room that is allowed is not over the limit
 module _ (room n k : ℕ) where
   allowed-fits : Fits (allowed room) n k → Fits room n k
   unfolding Fits allowed
@@ -145,12 +119,6 @@ module _ (room n k : ℕ) where
       small : (b : Bool) → over_places room ≡ b → (i : ℕ) → i ≤ cond b 268435456 room → i ≤ 268435456
       small true e i l = l
       small false e i l = omega (arith, ltb-false 268435456 room e)
-
-  pub counted_fit : (tested : List ℕ) {r : ℕ} {answer : List ℕ} → accepts tested ≡ true → r ≡ allowed room → Fits r n k → answer ≡ limit_says k k → PlacesCounted tested room n answer
-  unfolding counted_says
-  counted_fit tested h e f a =
-      let g : Fits (allowed room) n k = rw (← e) f in
-      record { told = k; fits = allowed-fits g; answer = a ∙ allowed_limit g ∙ rw h }
 
 -- Marks read four columns.
 module _ (x : Input) where
@@ -170,12 +138,61 @@ module _ (x : Input) where
   unfolding marks_if marks
   same-marks c m = ap (λ (w : List ℕ). cond (ltb (object_count x) m) w (zeros m)) (tab_ext (mark_at narrow c) (mark_at x c) m (λ i l. same_at c i))
 
-  -- What is left in the working column: the marks, kept or cleared.
-  pub marks-left : (n k m : ℕ) (tested : List ℕ) {answer w v : List ℕ} {keep : Bool} → answer ≡ counted_says tested n k → accepts answer ≡ accepts (check_says x)
-      → (accepts tested ≡ true → w ≡ marks_if narrow (class_count x.schema) m) → length w ≡ m → keep ≡ accepts answer → v ≡ cond keep w (zeros (length w)) → v ≡ marks_left x m
-  unfolding marks_left
-  marks-left n k m tested {answer} {w} {v} {keep} ec ea marked same ek ev = ev ∙ rw (← ea) (go (accepts answer) refl keep ek)
-    where
-      go : (a : Bool) → accepts answer ≡ a → (b : Bool) → b ≡ accepts answer → cond b w (zeros (length w)) ≡ cond (accepts answer) (marks_if x (class_count x.schema) m) (zeros m)
-      go true e b f = rw (f, e) (marked (counted-before n k tested ec e) ∙ same-marks (class_count x.schema) m)
-      go false e b f = rw (f, e) (ap zeros same)
+-- What the tests before PLACES answer where they refuse; and where they accept, what PLACES answers.
+module _ (x : Input) (held : ℕ) where
+  -- their answer is said of an input without a policy
+  said : {says : List ℕ} → says ≡ first_of (faults_before (with_policy x no_policy)) (0 ∷ held ∷ []) → says ≡ first_of (faults_before x) (0 ∷ held ∷ [])
+  said e = e ∙ ap (λ fs. first_of fs (0 ∷ held ∷ [])) (before_policy x no_policy)
+
+  pub count_refused : {room m : ℕ} {e : Refusal} {w : List ℕ} → refusal_says e ≡ first_of (faults_before (with_policy x no_policy)) (0 ∷ held ∷ []) → Counted x room m (Err e) w
+  count_refused {room} {e = e} h = record {
+    told = place_count x;
+    fits = fits_need room (place_count x);
+    answer =
+        refused_first (faults_before x) (at 8 (once (over_places (place_count x)))) held (0 ∷ place_count x ∷ []) (said h) (refusal_refuses e)
+        ∙ ap (λ fs. first_of fs (0 ∷ place_count x ∷ [])) (sym (all_faults x));
+    marks = λ ok. absurd (false≢true (sym (refusal_refuses e) ∙ ok));
+  }
+
+  module _ {n : ℕ} (h : 0 ∷ n ∷ [] ≡ first_of (faults_before (with_policy x no_policy)) (0 ∷ held ∷ [])) where
+    none_before : faults_before x ≡ []
+    unfolding accepts
+    none_before = (before_refuse x).none_met (0 ∷ held ∷ []) (ap accepts (sym (said h)))
+
+    passed : Sound x
+    passed = before_sound x none_before
+
+    count_passed : (k : ℕ) {room m : ℕ} {r : Result ℕ Refusal} {w : List ℕ} → Fits room (place_count x) k → limit_says k k ≡ limit_says (place_count x) k
+        → checked_says r ≡ limit_says k k → w ≡ marks_if (narrow x) (class_count x.schema) m → Counted x room m r w
+    count_passed k {m = m} f l a marked = record {
+      told = k;
+      fits = f;
+      answer = a ∙ l ∙ sym (check_first x k ∙ ap (λ fs. first_of fs (limit_says (place_count x) k)) none_before);
+      marks = λ ok. marked ∙ same-marks x (class_count x.schema) m;
+    }
+
+    -- with a room, of which as much is asked for as is allowed; and the places themselves
+    pub count_fit : (k : ℕ) {room m c a : ℕ} {r : Result ℕ Refusal} {w : List ℕ} → (Sound x → place_count x ≡ c) → a ≡ allowed room → Fits a c k → checked_says r ≡ limit_says k k
+        → w ≡ marks_if (narrow x) (class_count x.schema) m → Counted x room m r w
+    count_fit k {room} p e f =
+        let g : Fits (allowed room) (place_count x) k = rw (p passed, ← e) f in
+        count_passed k (allowed-fits room (place_count x) k g) (allowed_limit room (place_count x) k g)
+
+    pub count_all : {m c : ℕ} {r : Result ℕ Refusal} {w : List ℕ} → (Sound x → place_count x ≡ c) → checked_says r ≡ limit_says c c → w ≡ marks_if (narrow x) (class_count x.schema) m → Counted x 0 m r w
+    count_all p a = count_passed (place_count x) (fits_need 0 (place_count x)) refl (rw (p passed) a)
+
+-- The marks are kept or cleared.
+pub settled : {x : Input} {room m m' : ℕ} {r : Result ℕ Refusal} {w v : List ℕ} {keep : Bool} → Counted x room m' r w → m' ≡ m → length w ≡ m' → keep ≡ is_ok r
+    → v ≡ cond keep w (zeros (length w)) → Fitted x room m r v
+unfolding marks_left accepts
+settled {x} {m = m} {m'} {r} {w} {v} {keep} c em el ek ev = record {
+  told = c.told;
+  fits = c.fits;
+  answer = c.answer;
+  marks = ev ∙ rw (ek, ← told-accepts x c.told c.answer) (go r c.marks);
+}
+  where
+    go : (r : Result ℕ Refusal) → (accepts (checked_says r) ≡ true → w ≡ marks_if x (class_count x.schema) m')
+        → cond (is_ok r) w (zeros (length w)) ≡ cond (accepts (checked_says r)) (marks_if x (class_count x.schema) m) (zeros m)
+    go (Ok n) marked = marked refl ∙ ap (marks_if x (class_count x.schema)) em
+    go (Err e) marked = rw (refusal_refuses e) (ap zeros (el ∙ em))

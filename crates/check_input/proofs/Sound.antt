@@ -2,7 +2,7 @@
 use mathlib.Core.Path.{◌≡◌, refl, sym, ap, ◌∙◌}
 use mathlib.Core.Bool.{true}
 use mathlib.Core.List.{List, [], ◌∷◌}
-use Prim.Native.Nat.{ℕ, ◌-◌, ◌<◌}
+use Prim.Native.Nat.{ℕ, ◌<◌}
 use native.Mathlib.Omega.{arith}
 use borrow.Author.Tests.{eq-eqb}
 use Rattle.columns.specs.Lists.{◌!◌, places}
@@ -13,7 +13,7 @@ use Rattle.rules.specs.Verdict.{first_of, at, once, bad_lengths, bad_limit, bad_
 use Rattle.rules.specs.Places.{place_count}
 use Rattle.rules.proofs.Acceptance.{Refuse, refuse_append, refuse_at, Sound, none_sound, ids_rise, objects_few, classes_few, slots_ordered, slots_in, statics_ordered, statics_in, class_in, copied-span, codes-good}
 use Rattle.check_ids.specs.Spans.{part_length, slots_of}
-use Rattle.check_places.specs.Placing.{RangesIn, ClassTables, PartTables, CodeTables, PartStands, raw_places, copied_places}
+use Rattle.check_places.specs.Placing.{ClassTables, PartTables, CodeTables, raw_places, copied_places}
 use Rattle.rules.proofs.Even.{objects-even, copied-even, input_even}
 use Rattle.check_places.proofs.Routes.{raw-placed, copied_placed}
 use Rattle.check_input.specs.Flat.{faults_late, faults_before}
@@ -27,7 +27,7 @@ module _ (x : Input) where
       (refuse_append (refuse_at 2 refl _)
       (refuse_append (refuse_at 3 refl _) (refuse_append (refuse_at 4 refl _) (refuse_append (refuse_at 5 refl _) (refuse_append (refuse_at 6 refl _) (refuse_at 7 refl _))))))
 
-  before_sound : faults_before x ≡ [] → Sound x
+  pub before_sound : faults_before x ≡ [] → Sound x
   unfolding faults_before faults_late
   before_sound e =
       let e1 = append-empty (at 1 (once (bad_lengths x))) _ e in

@@ -10,7 +10,8 @@ use lib.ListN.{length, length-replicate}
 use Rattle.columns.specs.Lists.{◌!◌, tab}
 use Rattle.columns.specs.Columns.{zeros, accepts}
 use Rattle.columns.proofs.Lists.{tab-length}
-use Rattle.rules.specs.declared.Checked.{Checked}
+use Rattle.std.specs.Prelude.{Result}
+use Rattle.rules.specs.declared.Refusal.{Refusal}
 use Rattle.rules.specs.Types.{checked_says}
 use Rattle.rules.specs.Input.{Input, object_count, class_count}
 use Rattle.rules.specs.Places.{place_count}
@@ -23,13 +24,13 @@ use Rattle.check_input.specs.Flat.{marks_left, Judged, Marked, Fitted}
 use Rattle.check_input.proofs.Join.{told-accepts}
 
 -- No second outcome satisfies the contract.
-pub one_judged : {x : Input} {m : ℕ} {r s : Checked} {w v : List ℕ} → Judged x m r w → Judged x m s v → (r ≡ s) × (w ≡ v)
+pub one_judged : {x : Input} {m : ℕ} {r s : Result ℕ Refusal} {w v : List ℕ} → Judged x m r w → Judged x m s v → (r ≡ s) × (w ≡ v)
 one_judged {x} {m} {r} {s} a b = (one_checked r s (a.answer ∙ sym b.answer), a.working ∙ sym b.working)
 
-pub one_marked : {x : Input} {m : ℕ} {r s : Checked} {w v : List ℕ} → Marked x m r w → Marked x m s v → (r ≡ s) × (w ≡ v)
+pub one_marked : {x : Input} {m : ℕ} {r s : Result ℕ Refusal} {w v : List ℕ} → Marked x m r w → Marked x m s v → (r ≡ s) × (w ≡ v)
 one_marked {x} {m} {r} {s} a b = (one_checked r s (a.answer ∙ sym b.answer), a.marks ∙ sym b.marks)
 
-module _ {x : Input} {m : ℕ} {r : Checked} {w : List ℕ} (j : Judged x m r w) (ok : accepts (checked_says r) ≡ true) where
+module _ {x : Input} {m : ℕ} {r : Result ℕ Refusal} {w : List ℕ} (j : Judged x m r w) (ok : accepts (checked_says r) ≡ true) where
   accepted : accepts (check_says x) ≡ true
   accepted = ap accepts (sym j.answer) ∙ ok
 
@@ -42,7 +43,7 @@ module _ {x : Input} {m : ℕ} {r : Checked} {w : List ℕ} (j : Judged x m r w)
   judged_says = j.answer ∙ ap (λ (fs : List (List ℕ)). first_of fs (0 ∷ place_count x ∷ [])) ((faults_refuse x).none_met _ accepted)
 
 -- The marks of an accepted input, zeros after a refusal; they are as long as the column was.
-module _ {x : Input} {m : ℕ} {r : Checked} {w : List ℕ} (j : Marked x m r w) where
+module _ {x : Input} {m : ℕ} {r : Result ℕ Refusal} {w : List ℕ} (j : Marked x m r w) where
   pub marked_zeros : accepts (checked_says r) ≡ false → w ≡ zeros m
   unfolding marks_left
   marked_zeros no_more = j.marks ∙ rw (ap accepts (sym j.answer) ∙ no_more)
@@ -61,11 +62,11 @@ marks_long x m = go (accepts (check_says x)) (ltb (object_count x) m)
     go false b = length-replicate m 0
 
 -- Where they are cleared, nothing is left of them.
-pub marked_judged : {x : Input} {m : ℕ} {r : Checked} {w v : List ℕ} → Marked x m r w → v ≡ zeros (length w) → Judged x m r v
+pub marked_judged : {x : Input} {m : ℕ} {r : Result ℕ Refusal} {w v : List ℕ} → Marked x m r w → v ≡ zeros (length w) → Judged x m r v
 marked_judged {x} {m} j e = record { answer = j.answer; working = e ∙ ap zeros (ap length j.marks ∙ marks_long x m) }
 
 -- What a check with a room comes to. A refusal is what document 01 says,
-module _ {x : Input} {room m : ℕ} {r : Checked} {w : List ℕ} (j : Fitted x room m r w) where
+module _ {x : Input} {room m : ℕ} {r : Result ℕ Refusal} {w : List ℕ} (j : Fitted x room m r w) where
   same_verdict : accepts (checked_says r) ≡ accepts (check_says x)
   same_verdict = told-accepts x j.told j.answer
 
@@ -100,7 +101,7 @@ module _ {x : Input} {room m : ℕ} {r : Checked} {w : List ℕ} (j : Fitted x r
     fitted_marks = j.marks ∙ rw fitted_accepted
 
 -- Without room the number is the places.
-pub fitted_marked : {x : Input} {m : ℕ} {r : Checked} {w : List ℕ} → Fitted x 0 m r w → Marked x m r w
+pub fitted_marked : {x : Input} {m : ℕ} {r : Result ℕ Refusal} {w : List ℕ} → Fitted x 0 m r w → Marked x m r w
 unfolding check_says Fits
 fitted_marked {x} j =
     let e : j.told ≡ place_count x = ⊎_elim (λ (p : j.told ≡ place_count x). p) (λ l. omega (arith, l.0, l.1)) j.fits in

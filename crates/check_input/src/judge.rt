@@ -5,15 +5,78 @@ ghost use Rattle.columns.specs.Loans.{now_of};
 ghost use Rattle.rules.specs.Types.{checked_says};
 ghost use Rattle.rules.specs.Verdict.{first_of};
 ghost use Rattle.rules.specs.Tables.{object_table, class_table, slot_table, static_table, copied_route, raw_route, schema_of, input_of};
-ghost use Rattle.check_tables.specs.Reads.{no_policy};
+ghost use Rattle.check_tables.specs.Reads.{no_policy, Tables};
 ghost use Rattle.check_ids.specs.Copying.{held_codes};
 ghost use Rattle.check_tables.specs.Found.{marks_if, find_columns};
-ghost use Rattle.check_input.specs.Flat.{faults_before};
+ghost use Rattle.check_input.specs.Flat.{faults_before, faults_tables, table_columns, passed_says};
 
 use crate::late;
 use check_tables::{lengths, objects};
 use check_whole::tables;
-use rules::{Checked, Refusal};
+use rules::Refusal;
+
+// The objects and the classes, which are the same on both routes. Where they are accepted, the working column holds the marks of the classes.
+fn judge_tables(
+    ids: &[u64],
+    kinds: &[u8],
+    classes: &[u32],
+    lengths: &[u32],
+    class_ids: &[u64],
+    dumped: &[u8],
+    class_kinds: &[u8],
+    slot_starts: &[u32],
+    slot_ends: &[u32],
+    static_starts: &[u32],
+    static_ends: &[u32],
+    slot_offsets: &[u32],
+    slot_labels: &[u32],
+    slot_weak: &[u8],
+    static_names: &[u32],
+    static_types: &[u8],
+    names: usize,
+    working: &mut [u64],
+) -> Result<(), Refusal>
+    requires kinds_len { length kinds.now ≡ length ids.now }
+    requires classes_len { length classes.now ≡ length ids.now }
+    requires lengths_len { length lengths.now ≡ length ids.now }
+    requires dumped_len { length dumped.now ≡ length class_ids.now }
+    requires tables { Tables dumped.now class_kinds.now slot_starts.now slot_ends.now static_starts.now static_ends.now
+        slot_offsets.now slot_labels.now slot_weak.now static_names.now static_types.now }
+    requires working_value { working.old ≡ zeros (length working.old) }
+    ensures result_value { let columns = table_columns ids.now kinds.now classes.now lengths.now class_ids.now dumped.now class_kinds.now
+        slot_starts.now slot_ends.now static_starts.now static_ends.now slot_offsets.now slot_labels.now slot_weak.now
+        static_names.now static_types.now names in
+        passed_says result ≡ first_of (faults_tables columns) (0 ∷ 0 ∷ []) }
+    ensures working_value { accepts (passed_says result) ≡ true →
+        working.new ≡ marks_if (find_columns ids.now kinds.now class_ids.now dumped.now) (length class_ids.now) (length working.old) }
+{
+    let o = objects::first_object(ids, kinds, classes, lengths, class_ids);
+    if o < ids.len() {
+        return Err(Refusal::Object(o));
+    }
+    let class = tables::first_dumped(
+        ids,
+        kinds,
+        class_ids,
+        dumped,
+        class_kinds,
+        slot_starts,
+        slot_ends,
+        static_starts,
+        static_ends,
+        slot_offsets,
+        slot_labels,
+        slot_weak,
+        static_names,
+        static_types,
+        names,
+        working,
+    );
+    if class < class_ids.len() {
+        return Err(Refusal::Class(class));
+    }
+    Ok(())
+}
 
 // The checks before the places are counted. Where they accept, they tell how many codes are not 0, and the working column holds the marks of the classes.
 pub(crate) fn judge_copied(
@@ -43,7 +106,7 @@ pub(crate) fn judge_copied(
     starts: &[u32],
     roots: &[u32],
     working: &mut [u64],
-) -> Checked
+) -> Result<usize, Refusal>
     requires { working.old ≡ zeros (length working.old) }
     ensures result_value { let schema = schema_of (class_table now_of class_ids loaders dumped class_kinds slot_starts slot_ends static_starts static_ends)
         (slot_table now_of slot_offsets slot_labels slot_weak) (static_table now_of static_names static_types static_values) names in
@@ -76,7 +139,7 @@ pub(crate) fn judge_copied(
         escape_ids,
         starts,
     ) {
-        return Checked::Refused(Refusal::Lengths);
+        return Err(Refusal::Lengths);
     }
     if lengths::over_limit(
         ids.len(),
@@ -85,15 +148,13 @@ pub(crate) fn judge_copied(
         slot_offsets.len(),
         static_names.len(),
     ) {
-        return Checked::Refused(Refusal::Limit);
+        return Err(Refusal::Limit);
     }
-    let o = objects::first_object(ids, kinds, classes, lengths, class_ids);
-    if o < ids.len() {
-        return Checked::Refused(Refusal::Object(o));
-    }
-    let class = tables::first_dumped(
+    judge_tables(
         ids,
         kinds,
+        classes,
+        lengths,
         class_ids,
         dumped,
         class_kinds,
@@ -108,10 +169,7 @@ pub(crate) fn judge_copied(
         static_types,
         names,
         working,
-    );
-    if class < class_ids.len() {
-        return Checked::Refused(Refusal::Class(class));
-    }
+    )?;
     late::judge_ids(
         ids,
         kinds,
@@ -155,13 +213,13 @@ pub(crate) fn judge_raw(
     bodies: &[u32],
     roots: &[u32],
     working: &mut [u64],
-) -> Checked
+) -> Result<(), Refusal>
     requires { working.old ≡ zeros (length working.old) }
     ensures result_value { let schema = schema_of (class_table now_of class_ids loaders dumped class_kinds slot_starts slot_ends static_starts static_ends)
         (slot_table now_of slot_offsets slot_labels slot_weak) (static_table now_of static_names static_types static_values) names in
         let input = input_of (object_table now_of ids kinds classes lengths) schema (raw_route now_of bytes size starts bodies) roots.now no_policy in
-        checked_says result ≡ first_of (faults_before input) (0 ∷ 0 ∷ []) }
-    ensures working_value { accepts (checked_says result) ≡ true →
+        passed_says result ≡ first_of (faults_before input) (0 ∷ 0 ∷ []) }
+    ensures working_value { accepts (passed_says result) ≡ true →
         working.new ≡ marks_if (find_columns ids.now kinds.now class_ids.now dumped.now) (length class_ids.now) (length working.old) }
 {
     if tables::raw_lengths(
@@ -186,7 +244,7 @@ pub(crate) fn judge_raw(
         starts,
         bodies,
     ) {
-        return Checked::Refused(Refusal::Lengths);
+        return Err(Refusal::Lengths);
     }
     if lengths::over_limit(
         ids.len(),
@@ -194,19 +252,15 @@ pub(crate) fn judge_raw(
         names,
         slot_offsets.len(),
         static_names.len(),
-    ) {
-        return Checked::Refused(Refusal::Limit);
+    ) || lengths::bad_size(size)
+    {
+        return Err(Refusal::Limit);
     }
-    if lengths::bad_size(size) {
-        return Checked::Refused(Refusal::Limit);
-    }
-    let o = objects::first_object(ids, kinds, classes, lengths, class_ids);
-    if o < ids.len() {
-        return Checked::Refused(Refusal::Object(o));
-    }
-    let class = tables::first_dumped(
+    judge_tables(
         ids,
         kinds,
+        classes,
+        lengths,
         class_ids,
         dumped,
         class_kinds,
@@ -221,9 +275,6 @@ pub(crate) fn judge_raw(
         static_types,
         names,
         working,
-    );
-    if class < class_ids.len() {
-        return Checked::Refused(Refusal::Class(class));
-    }
+    )?;
     late::judge_bodies(ids, kinds, lengths, bytes, size, starts, bodies, roots)
 }

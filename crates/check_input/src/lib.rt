@@ -6,7 +6,7 @@ ghost use Rattle.columns.specs.Loans.{now_of};
 ghost use Rattle.rules.specs.Tables.{object_table, class_table, slot_table, static_table, copied_route, raw_route, schema_of, input_of};
 ghost use Rattle.check_input.specs.Flat.{Judged, Marked, Fitted};
 
-use rules::{Checked, ReferencePolicy};
+use rules::{ReferencePolicy, Refusal};
 
 pub mod count;
 pub mod judge;
@@ -43,14 +43,14 @@ pub fn fit_copied(
     policy: ReferencePolicy,
     room: usize,
     working: &mut [u64],
-) -> Checked
+) -> Result<usize, Refusal>
     ensures { let schema = schema_of (class_table now_of class_ids loaders dumped class_kinds slot_starts slot_ends static_starts static_ends)
         (slot_table now_of slot_offsets slot_labels slot_weak) (static_table now_of static_names static_types static_values) names in
         let input = input_of (object_table now_of ids kinds classes lengths) schema (copied_route now_of codes escape_places escape_ids base starts) roots.now policy in
         Fitted input room (length working.old) result working.new }
 {
-    columns::zero_u64(working, 0);
-    let tested = judge::judge_copied(
+    columns::zero(working, 0);
+    let answer = count::count_copied(
         ids,
         kinds,
         classes,
@@ -76,31 +76,11 @@ pub fn fit_copied(
         base,
         starts,
         roots,
+        policy,
+        room,
         working,
     );
-    let answer = count::count_copied(
-        tested,
-        room,
-        ids,
-        kinds,
-        classes,
-        lengths,
-        class_ids,
-        loaders,
-        dumped,
-        class_kinds,
-        slot_starts,
-        slot_ends,
-        static_starts,
-        static_ends,
-        slot_weak,
-        static_types,
-        static_values,
-        codes,
-        starts,
-        policy,
-    );
-    check_whole::settle(check_whole::accepted(answer), working);
+    check_whole::settle(answer.is_ok(), working);
     answer
 }
 
@@ -132,14 +112,14 @@ pub fn fit_raw(
     roots: &[u32],
     policy: ReferencePolicy,
     working: &mut [u64],
-) -> Checked
+) -> Result<usize, Refusal>
     ensures { let schema = schema_of (class_table now_of class_ids loaders dumped class_kinds slot_starts slot_ends static_starts static_ends)
         (slot_table now_of slot_offsets slot_labels slot_weak) (static_table now_of static_names static_types static_values) names in
         let input = input_of (object_table now_of ids kinds classes lengths) schema (raw_route now_of bytes size starts bodies) roots.now policy in
         Marked input (length working.old) result working.new }
 {
-    columns::zero_u64(working, 0);
-    let tested = judge::judge_raw(
+    columns::zero(working, 0);
+    let answer = count::count_raw(
         ids,
         kinds,
         classes,
@@ -164,25 +144,10 @@ pub fn fit_raw(
         starts,
         bodies,
         roots,
+        policy,
         working,
     );
-    let answer = count::count_raw(
-        tested,
-        ids,
-        kinds,
-        classes,
-        lengths,
-        class_ids,
-        loaders,
-        dumped,
-        slot_starts,
-        slot_ends,
-        static_starts,
-        static_ends,
-        static_types,
-        static_values,
-    );
-    check_whole::settle(check_whole::accepted(answer), working);
+    check_whole::settle(answer.is_ok(), working);
     answer
 }
 
@@ -216,7 +181,7 @@ pub fn check_copied(
     roots: &[u32],
     policy: ReferencePolicy,
     working: &mut [u64],
-) -> Checked
+) -> Result<usize, Refusal>
     ensures { let schema = schema_of (class_table now_of class_ids loaders dumped class_kinds slot_starts slot_ends static_starts static_ends)
         (slot_table now_of slot_offsets slot_labels slot_weak) (static_table now_of static_names static_types static_values) names in
         let input = input_of (object_table now_of ids kinds classes lengths) schema (copied_route now_of codes escape_places escape_ids base starts) roots.now policy in
@@ -284,7 +249,7 @@ pub fn check_raw(
     roots: &[u32],
     policy: ReferencePolicy,
     working: &mut [u64],
-) -> Checked
+) -> Result<usize, Refusal>
     ensures { let schema = schema_of (class_table now_of class_ids loaders dumped class_kinds slot_starts slot_ends static_starts static_ends)
         (slot_table now_of slot_offsets slot_labels slot_weak) (static_table now_of static_names static_types static_values) names in
         let input = input_of (object_table now_of ids kinds classes lengths) schema (raw_route now_of bytes size starts bodies) roots.now policy in

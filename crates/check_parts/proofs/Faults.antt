@@ -15,7 +15,7 @@ use Rattle.columns.proofs.Tests.{or_true, none_of, append-empty, places_none, an
 use Rattle.columns.proofs.Sums.{part_length_lem}
 use Rattle.columns.proofs.First.{Searching, searching_start, searching_more}
 use Rattle.labels.specs.Coding.{LaidOut}
-use Rattle.labels.proofs.Codes.{laid_within}
+use Rattle.labels.proofs.Coded.{laid_within}
 use Rattle.rules.specs.Edges.{pair_le}
 use Rattle.rules.specs.Labels.{after, expected}
 use Rattle.rules.specs.Verdict.{once}

@@ -2,7 +2,9 @@
 use mathlib.Core.Path.{◌≡◌, sym, ap, ◌∙◌}
 use mathlib.Core.Bool.{true}
 use Rattle.columns.specs.Columns.{accepts}
-use Rattle.rules.specs.declared.Checked.{Checked}
+use Prim.Native.Nat.{ℕ}
+use Rattle.std.specs.Prelude.{Result}
+use Rattle.rules.specs.declared.Refusal.{Refusal}
 use Rattle.rules.specs.Types.{checked_says}
 use Rattle.rules.specs.Input.{Schema}
 use Rattle.rules.specs.Edges.{Parts}
@@ -10,9 +12,9 @@ use Rattle.rules.specs.Parts.{handed_says}
 use Rattle.rules.proofs.Types.{one_checked}
 use Rattle.rules.proofs.Handed.{HandedPassed, handed-passed, handed_refuse}
 
-module _ (s : Schema) (p : Parts) (r : Checked) (e : checked_says r ≡ handed_says s p) where
+module _ (s : Schema) (p : Parts) (r : Result ℕ Refusal) (e : checked_says r ≡ handed_says s p) where
   -- ONE OUTCOME.
-  pub one_check : (r' : Checked) → checked_says r' ≡ handed_says s p → r ≡ r'
+  pub one_check : (r' : Result ℕ Refusal) → checked_says r' ≡ handed_says s p → r ≡ r'
   one_check r' e' = one_checked r r' (e ∙ sym e')
 
   -- Parts that are accepted have passed every test: what the steps of `from_parts` go by.

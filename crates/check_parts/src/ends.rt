@@ -30,8 +30,7 @@ pub(crate) fn first_pair(weak_from: &[u32], weak_to: &[u32], objects: usize) -> 
 {
     let mut a0 = 0;
     let mut b0 = 0;
-    let mut i = 0;
-    while i < weak_from.len() {
+    for i in 0..weak_from.len() {
         let a = weak_from[i];
         let b = weak_to[i];
         if pair_fault(objects, a0, b0, a, b) {
@@ -39,7 +38,6 @@ pub(crate) fn first_pair(weak_from: &[u32], weak_to: &[u32], objects: usize) -> 
         }
         a0 = a;
         b0 = b;
-        i += 1;
     }
-    i
+    weak_from.len()
 }

@@ -7,14 +7,13 @@ ghost use Rattle.rules.specs.Parts.{parts_faults};
 ghost use Rattle.check_parts.specs.Checks.{handed, end_faults, edge_faults};
 
 use crate::{edges, ends, offsets};
-use check_ids::copied::Fault;
 use check_tables::objects;
-use rules::{Checked, Refusal};
+use rules::Refusal;
 
-fn refused(column: usize, position: usize) -> Checked
+fn refused(column: usize, position: usize) -> Result<usize, Refusal>
     ensures { checked_says result ≡ 10 ∷ column ∷ position ∷ [] }
 {
-    Checked::Refused(Refusal::Parts { column, position })
+    Err(Refusal::Parts { column, position })
 }
 
 // Columns 4 and 5.
@@ -24,7 +23,7 @@ fn judge_ends(
     weak_from: &[u32],
     weak_to: &[u32],
     roots: &[u32],
-) -> Checked
+) -> Result<usize, Refusal>
     requires { length weak_to.now ≡ length weak_from.now }
     ensures { checked_says result ≡ first_of (end_faults objects weak_from.now weak_to.now roots.now) (0 ∷ edges ∷ []) }
 {
@@ -36,7 +35,7 @@ fn judge_ends(
     if j < roots.len() {
         return refused(5, j);
     }
-    Checked::Accepted(edges)
+    Ok(edges)
 }
 
 // Columns 2 and 3, and those behind them.
@@ -48,20 +47,20 @@ fn judge_edges(
     weak_from: &[u32],
     weak_to: &[u32],
     roots: &[u32],
-) -> Checked
+) -> Result<usize, Refusal>
     requires laid_out { LaidOut offsets.now (length labels.now) }
     requires weak_to_len { length weak_to.now ≡ length weak_from.now }
     ensures { let columns = handed offsets.now targets.now labels.now weak_from.now weak_to.now roots.now in
         checked_says result ≡ first_of (edge_faults names columns) (0 ∷ length labels.now ∷ []) }
 {
     let objects = offsets::object_count(offsets.len());
-    match edges::first_label(names, offsets, labels) {
-        Fault::At(p) => refused(2, p),
-        Fault::Nothing => match check_edge::first_target(targets, labels.len(), objects) {
-            Fault::At(p) => refused(3, p),
-            Fault::Nothing => judge_ends(objects, labels.len(), weak_from, weak_to, roots),
-        },
+    if let Some(p) = edges::first_label(names, offsets, labels) {
+        return refused(2, p);
     }
+    if let Some(p) = check_edge::first_target(targets, labels.len(), objects) {
+        return refused(3, p);
+    }
+    judge_ends(objects, labels.len(), weak_from, weak_to, roots)
 }
 
 // All columns.
@@ -73,13 +72,13 @@ pub(crate) fn judge_parts(
     weak_from: &[u32],
     weak_to: &[u32],
     roots: &[u32],
-) -> Checked
+) -> Result<usize, Refusal>
     requires { length weak_to.now ≡ length weak_from.now }
     ensures { let columns = handed offsets.now targets.now labels.now weak_from.now weak_to.now roots.now in
         checked_says result ≡ first_of (parts_faults names columns) (0 ∷ length labels.now ∷ []) }
 {
-    match offsets::first_offset(offsets, labels.len()) {
-        Fault::At(p) => refused(1, p),
-        Fault::Nothing => judge_edges(names, offsets, targets, labels, weak_from, weak_to, roots),
+    if let Some(p) = offsets::first_offset(offsets, labels.len()) {
+        return refused(1, p);
     }
+    judge_edges(names, offsets, targets, labels, weak_from, weak_to, roots)
 }

@@ -14,7 +14,7 @@ ghost use Rattle.rules.specs.Parts.{handed_says};
 ghost use Rattle.check_parts.specs.Checks.{handed};
 
 use check_tables::{classes, lengths};
-use rules::{Checked, Refusal};
+use rules::Refusal;
 
 // LENGTHS, LIMIT, CLASS without its two causes about found objects, PLACES for the label count, PARTS. Accepted, it gives the label count.
 pub fn check_parts(
@@ -39,7 +39,7 @@ pub fn check_parts(
     weak_from: &[u32],
     weak_to: &[u32],
     roots: &[u32],
-) -> Checked
+) -> Result<usize, Refusal>
     ensures { let schema = schema_of (class_table now_of class_ids loaders dumped class_kinds slot_starts slot_ends static_starts static_ends)
         (slot_table now_of slot_offsets slot_labels slot_weak) (static_table now_of static_names static_types static_values) names in
         let columns = handed offsets.now targets.now labels.now weak_from.now weak_to.now roots.now in
@@ -61,10 +61,10 @@ pub fn check_parts(
         static_types,
         static_values,
     ) {
-        return Checked::Refused(Refusal::Lengths);
+        return Err(Refusal::Lengths);
     }
-    if lengths::differ(weak_from.len(), weak_to.len()) {
-        return Checked::Refused(Refusal::Lengths);
+    if lengths::differ(weak_from.len(), &[weak_to.len()]) {
+        return Err(Refusal::Lengths);
     }
     if lengths::over_limit(
         offsets::object_count(offsets.len()),
@@ -73,7 +73,7 @@ pub fn check_parts(
         slot_offsets.len(),
         static_names.len(),
     ) {
-        return Checked::Refused(Refusal::Limit);
+        return Err(Refusal::Limit);
     }
     let class = classes::first_class(
         dumped,
@@ -90,10 +90,10 @@ pub fn check_parts(
         names,
     );
     if class < class_ids.len() {
-        return Checked::Refused(Refusal::Class(class));
+        return Err(Refusal::Class(class));
     }
     if 268435456 < labels.len() {
-        return Checked::Refused(Refusal::Places);
+        return Err(Refusal::Places);
     }
     judge::judge_parts(names, offsets, targets, labels, weak_from, weak_to, roots)
 }

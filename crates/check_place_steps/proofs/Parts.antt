@@ -25,10 +25,6 @@ codes_mono codes a b l = let e : b ≡ a + (b - a) = omega arith in rw e (total-
 
 -- one object more: its part is empty, or stands behind the parts before
 module _ (kinds classes lengths slot_start slot_end codes starts : List ℕ) (o e : ℕ) (w : total (codes_in kinds classes lengths slot_start slot_end codes starts) o ≤ total (one_code codes 0) e) where
-  pub part-empty : {part : ℕ} → part ≡ part_at kinds classes lengths slot_start slot_end o → part ≡ 0
-      → total (codes_in kinds classes lengths slot_start slot_end codes starts) (o + 1) ≤ total (one_code codes 0) e
-  part-empty p z = rw (add-one o, ← p, z) (omega arith)
-
   pub part-behind : {part start n : ℕ} → part ≡ part_at kinds classes lengths slot_start slot_end o → start ≡ starts ! o → n ≡ part → e ≤ start
       → total (codes_in kinds classes lengths slot_start slot_end codes starts) (o + 1) ≤ total (one_code codes 0) (start + n)
   part-behind {part} {start} p s q l = rw (add-one o, q, ← p, ← s) (omega (arith, codes_cut codes start part, codes_mono codes e start l))

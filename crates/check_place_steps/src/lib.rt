@@ -9,26 +9,12 @@ ghost use Rattle.check_place_steps.specs.Place.{part_at, slot_held, codes_in, Pa
 
 use check_ids::spans;
 
-// 1 for a code that is not 0, and for one of a slot that is kept: calls in the place of branches, so that the walks have one way on.
-pub fn one_code(code: u32) -> u64
-    ensures { result ≡ one (not (eqb code 0)) }
-{
-    if code == 0 {
-        return 0;
-    }
-    1
-}
-
+// How many places a slot has: one where its code is not 0 and it is kept or not weak.
+#[tactic(auto, unfolding(crate::specs::Place::slot_held, columns::specs::Lists::any_of, columns::specs::Lists::all_of))]
 pub fn one_slot(kept: bool, weak: u8, code: u32) -> u64
     ensures { result ≡ one (slot_held kept weak code) }
 {
-    if kept {
-        return one_code(code);
-    }
-    if weak == 1 {
-        return 0;
-    }
-    one_code(code)
+    u64::from((kept || weak != 1) && code != 0)
 }
 
 // All slots and elements. Each part has fewer than 2^32, so that the sum stays below 2^64.
@@ -44,11 +30,9 @@ pub fn count_parts(
     ensures upper_bound { result ≤ 288230376151711744 }
 {
     let mut sum: u64 = 0;
-    let mut o = 0;
-    while o < kinds.len() {
+    for o in 0..kinds.len() {
         let part = spans::part_of(kinds[o], classes[o], lengths[o], slot_starts, slot_ends);
-        sum += columns::wide(part);
-        o += 1;
+        sum += u64::from(part);
     }
     sum
 }
@@ -68,19 +52,16 @@ pub fn in_order(
         codes.now starts.now) (length kinds.now) ≤ held_codes codes.now }
 {
     let mut end = 0;
-    let mut o = 0;
-    while o < kinds.len() {
+    for o in 0..kinds.len() {
         let part = spans::part_of(kinds[o], classes[o], lengths[o], slot_starts, slot_ends);
         if part == 0 {
-            o += 1;
-        } else {
-            let start = columns::index(starts[o]);
-            if start < end {
-                return false;
-            }
-            end = start + columns::index(part);
-            o += 1;
+            continue;
         }
+        let start = columns::index(starts[o]);
+        if start < end {
+            return false;
+        }
+        end = start + columns::index(part);
     }
     true
 }

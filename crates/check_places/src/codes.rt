@@ -20,10 +20,8 @@ fn count_slots(
     ensures upper_bound { result ≤ n }
 {
     let mut sum: u64 = 0;
-    let mut k = 0;
-    while k < n {
+    for k in 0..n {
         sum += check_place_steps::one_slot(kept, slot_weak[first + k], codes[start + k]);
-        k += 1;
     }
     sum
 }
@@ -35,15 +33,14 @@ fn count_codes(codes: &[u32], start: usize, n: usize) -> u64
     ensures upper_bound { result ≤ n }
 {
     let mut sum: u64 = 0;
-    let mut k = 0;
-    while k < n {
-        sum += check_place_steps::one_code(codes[start + k]);
-        k += 1;
+    for k in 0..n {
+        sum += u64::from(codes[start + k] != 0);
     }
     sum
 }
 
 // Those of one object.
+#[tactic(auto, unfolding(crate::specs::Placing::object_places, check_ids::specs::Spans::part_length, check_ids::specs::Spans::slots_of))]
 fn object_places(
     class_kinds: &[u8],
     slot_starts: &[u32],
@@ -61,17 +58,17 @@ fn object_places(
     ensures upper_bound { result ≤ 4294967295 }
 {
     let at = columns::index(start);
-    if kind == 1 {
-        return count_codes(codes, at, columns::index(len));
+    match kind {
+        0 => {
+            let c = columns::index(class);
+            let first = columns::index(slot_starts[c]);
+            let end = columns::index(slot_ends[c]);
+            let kept = policy.keeps(class_kinds[c]);
+            count_slots(kept, at, first, end - first, slot_weak, codes)
+        }
+        1 => count_codes(codes, at, columns::index(len)),
+        _ => 0,
     }
-    if 1 < kind {
-        return 0;
-    }
-    let c = columns::index(class);
-    let first = columns::index(slot_starts[c]);
-    let end = columns::index(slot_ends[c]);
-    let kept = policy.keeps(class_kinds[c]);
-    count_slots(kept, at, first, end - first, slot_weak, codes)
 }
 
 // Those of all objects. Each has fewer than 2^32, so that the sum stays below 2^64.
@@ -93,8 +90,7 @@ pub(crate) fn count_objects(
     ensures upper_bound { result ≤ 288230376151711744 }
 {
     let mut sum: u64 = 0;
-    let mut o = 0;
-    while o < kinds.len() {
+    for o in 0..kinds.len() {
         sum += object_places(
             class_kinds,
             slot_starts,
@@ -107,7 +103,6 @@ pub(crate) fn count_objects(
             lengths[o],
             starts[o],
         );
-        o += 1;
     }
     sum
 }

@@ -46,16 +46,14 @@ pub(crate) fn within(
         static_values,
         true,
     );
-    if ((room - held) as u64) < most {
-        return false;
-    }
-    check_place_steps::in_order(
-        kinds,
-        classes,
-        lengths,
-        slot_starts,
-        slot_ends,
-        codes,
-        starts,
-    )
+    most <= (room - held) as u64
+        && check_place_steps::in_order(
+            kinds,
+            classes,
+            lengths,
+            slot_starts,
+            slot_ends,
+            codes,
+            starts,
+        )
 }

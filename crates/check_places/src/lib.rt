@@ -13,6 +13,7 @@ pub mod fit;
 pub mod statics;
 
 // The places of a raw input.
+#[tactic(auto, unfolding(crate::specs::Placing::raw_places))]
 pub fn raw_places(
     ids: &[u64],
     kinds: &[u8],
@@ -50,6 +51,7 @@ pub fn raw_places(
 }
 
 // The places of a copied input whose codes, parts and classes were checked.
+#[tactic(auto, unfolding(crate::specs::Placing::copied_places))]
 pub fn copied_places(
     ids: &[u64],
     kinds: &[u8],

@@ -5,33 +5,22 @@ ghost use Rattle.columns.specs.Ranks.{Rises};
 ghost use Rattle.check_places.specs.Placing.{is_held, static_held, one_static, class_places, ClassTables};
 
 use check_tables::found;
-use lookup::Found;
 
-// 1 for an id that has a place: a call in the place of a branch, so that the walk has one way on.
-fn one_held(ids: &[u64], id: u64, every: bool) -> u64
+// Whether an id has a place: every one, or else one that is that of an object.
+#[tactic(auto, using(crate::proofs::Counting::sought_found), unfolding(crate::specs::Placing::is_held, columns::specs::Lists::any_of, columns::specs::Lists::all_of))]
+fn is_held(ids: &[u64], id: u64, every: bool) -> bool
     requires { Rises ids.now }
-    ensures { result ≡ one (is_held every ids.now id) }
+    ensures { result ≡ is_held every ids.now id }
 {
-    if every {
-        return 1;
-    }
-    if id == 0 {
-        return 0;
-    }
-    match lookup::find_sorted(ids, id, ids.len() / 2) {
-        Found::At(_) => 1,
-        Found::Missing(_) => 0,
-    }
+    every || (id != 0 && lookup::find_sorted(ids, id, ids.len() / 2).is_ok())
 }
 
-fn one_static(ids: &[u64], kind: u8, value: u64, every: bool) -> u64
+#[tactic(auto, unfolding(crate::specs::Placing::static_held, columns::specs::Lists::all_of))]
+fn static_held(ids: &[u64], kind: u8, value: u64, every: bool) -> bool
     requires { Rises ids.now }
-    ensures { result ≡ one (static_held every ids.now kind value) }
+    ensures { result ≡ static_held every ids.now kind value }
 {
-    if kind == 2 {
-        return one_held(ids, value, every);
-    }
-    0
+    kind == 2 && is_held(ids, value, every)
 }
 
 // The object statics from a place up to another.
@@ -47,18 +36,18 @@ fn count_statics(
     requires static_values_len { length static_values.now ≡ length static_types.now }
     requires from_le_to { from ≤ to }
     requires to_in_bounds { to ≤ length static_types.now }
-    ensures { result ≡ total (one_static every ids.now static_types.now static_values.now from) (to - from) }
+    ensures value { result ≡ total (one_static every ids.now static_types.now static_values.now from) (to - from) }
+    ensures upper_bound { result ≤ to - from }
 {
     let mut sum: u64 = 0;
-    let mut i = from;
-    while i < to {
-        sum += one_static(ids, static_types[i], static_values[i], every);
-        i += 1;
+    for i in from..to {
+        sum += u64::from(static_held(ids, static_types[i], static_values[i], every));
     }
     sum
 }
 
 // The object statics and the loader of a class, if it is found.
+#[tactic(auto, unfolding(crate::specs::Placing::class_places))]
 fn class_places(
     ids: &[u64],
     class_ids: &[u64],
@@ -81,7 +70,7 @@ fn class_places(
         let from = columns::index(static_starts[class]);
         let to = columns::index(static_ends[class]);
         let statics = count_statics(ids, static_types, static_values, from, to, every);
-        return statics + one_held(ids, loaders[class], every);
+        return statics + u64::from(is_held(ids, loaders[class], every));
     }
     0
 }
@@ -104,8 +93,7 @@ pub(crate) fn count_classes(
     ensures upper_bound { result ≤ 288230376151711744 }
 {
     let mut sum: u64 = 0;
-    let mut class = 0;
-    while class < class_ids.len() {
+    for class in 0..class_ids.len() {
         sum += class_places(
             ids,
             class_ids,
@@ -118,7 +106,6 @@ pub(crate) fn count_classes(
             class,
             every,
         );
-        class += 1;
     }
     sum
 }

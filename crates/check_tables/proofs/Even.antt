@@ -10,58 +10,6 @@ use Rattle.rules.specs.Verdict.{schema_lengths}
 use Rattle.rules.proofs.Even.{schema_even}
 use Rattle.check_tables.specs.Reads.{Tables}
 
-module _ (a b c d : Bool) where
-  pub some_first : a ≡ true → true ≡ any_of (a ∷ b ∷ c ∷ d ∷ [])
-  unfolding any_of
-  some_first h = rw h
-
-  pub some_second : b ≡ true → true ≡ any_of (a ∷ b ∷ c ∷ d ∷ [])
-  unfolding any_of
-  some_second h = rw h (sym (or_true a))
-
-  pub some_third : c ≡ true → true ≡ any_of (a ∷ b ∷ c ∷ d ∷ [])
-  unfolding any_of
-  some_third h = rw (h, or_true b) (sym (or_true a))
-
-  pub some_fourth : d ≡ true → true ≡ any_of (a ∷ b ∷ c ∷ d ∷ [])
-  unfolding any_of
-  some_fourth h = rw (h, or_true c, or_true b) (sym (or_true a))
-
-  pub none_four : a ≡ false → b ≡ false → c ≡ false → d ≡ false → false ≡ any_of (a ∷ b ∷ c ∷ d ∷ [])
-  unfolding any_of
-  none_four ha hb hc hd = rw (ha, hb, hc, hd)
-
--- the same, where the last two are a list of their own
-module _ (a b c d : Bool) where
-  pub last_third : c ≡ true → true ≡ any_of (a ∷ b ∷ any_of (c ∷ d ∷ []) ∷ [])
-  unfolding any_of
-  last_third h = rw (h, or_true b) (sym (or_true a))
-
-  pub last_fourth : d ≡ true → true ≡ any_of (a ∷ b ∷ any_of (c ∷ d ∷ []) ∷ [])
-  unfolding any_of
-  last_fourth h = rw (h, or_true c, or_true b) (sym (or_true a))
-
-  pub last_none : a ≡ false → b ≡ false → c ≡ false → d ≡ false → false ≡ any_of (a ∷ b ∷ any_of (c ∷ d ∷ []) ∷ [])
-  unfolding any_of
-  last_none ha hb hc hd = rw (ha, hb, hc, hd)
-
-module _ (a b c : Bool) where
-  pub three-first : a ≡ true → true ≡ any_of (a ∷ b ∷ c ∷ [])
-  unfolding any_of
-  three-first h = rw h
-
-  pub three_second : b ≡ true → true ≡ any_of (a ∷ b ∷ c ∷ [])
-  unfolding any_of
-  three_second h = rw h (sym (or_true a))
-
-  pub three_third : c ≡ true → true ≡ any_of (a ∷ b ∷ c ∷ [])
-  unfolding any_of
-  three_third h = rw (h, or_true b) (sym (or_true a))
-
-  pub three_none : a ≡ false → b ≡ false → c ≡ false → false ≡ any_of (a ∷ b ∷ c ∷ [])
-  unfolding any_of
-  three_none ha hb hc = rw (ha, hb, hc)
-
 pub with_none : (a : Bool) → any_of (a ∷ false ∷ []) ≡ a
 unfolding any_of
 with_none true = refl

@@ -3,17 +3,19 @@ use mathlib.Core.Path.{◌≡◌, refl, sym, ap, ◌∙◌}
 use mathlib.Core.Logic.{⊎_elim}
 use mathlib.Core.Bool.{Bool, true, false, ◌||◌}
 use mathlib.Core.List.{List, [], ◌∷◌, ◌++◌}
-use Prim.Native.Nat.{ℕ, zero, suc, pred, ◌+◌, ◌-◌, ◌≤◌, zero-le}
+use Prim.Native.Nat.{ℕ, zero, suc, pred, ◌+◌, ◌-◌, ◌≤◌, ◌<◌, zero-le}
 use native.Mathlib.Numerals.{add-one}
 use native.Mathlib.Omega.{arith}
 use borrow.Author.Tests.{lt-ltb, le-ltb, ltb-false, ne_eqb, le-leb, lt-leb, eqb-true}
 use lib.Dec.{eqb, leb, ltb}
 use lib.ListN.{length}
-use Rattle.columns.specs.Lists.{◌!◌, all_of, any_of, any}
+use Rattle.columns.specs.Lists.{◌!◌, first_place, all_of, any_of, any}
+use Rattle.columns.proofs.First.{Searching, searching_hit, searching_more, Passing, passing_hit, passing_end}
 use Rattle.columns.proofs.Lists.{lt_or_ge}
 use Rattle.columns.proofs.Tests.{none_of, and_true}
 use Rattle.rules.specs.Input.{Schema, slot_total, slot_place, static_total}
 use Rattle.rules.specs.Verdict.{bad_object, falls, bad_slot, bad_static, bad_class}
+use Rattle.check_tables.proofs.Laws.{or_assoc}
 use Rattle.check_tables.specs.Reads.{object_columns, object_fault, row_fault, slot_fault, static_fault, static_fault_at}
 
 -- the id before place o, 0 before the first
@@ -55,10 +57,6 @@ object_fault_lem ids kinds classes lengths classIds zero = rw (falls-first ids) 
 object_fault_lem ids kinds classes lengths classIds (suc o) = rw (falls-next ids o) (zero_or (ids ! suc o) (ids ! o) (rest ids kinds classes lengths classIds (suc o)))
 
 -- tests in two lists are tests in one
-or_assoc : (a b c : Bool) → (a || b) || c ≡ a || (b || c)
-or_assoc true b c = refl
-or_assoc false b c = refl
-
 any_append : (xs ys : List Bool) → any_of (xs ++ ys) ≡ any_of xs || any_of ys
 unfolding any_of
 any_append [] ys = refl
@@ -120,3 +118,33 @@ module _ (s : Schema) (c : ℕ) where
       → any (static_fault_at s.statics.names s.statics.types s.names from) (to - from) ≡ any (bad_static s c) (static_total s c)
   unfolding bad_static static_fault
   static_faults from to f t = rw (f, t)
+
+-- A walk over the classes that came to class c, and over its slots: what a test tells of the class.
+module _ (s : Schema) {n c : ℕ} (h : Searching (bad_class s) n c) where
+  pub class_ranges : {r : Bool} → r ≡ row s c → r ≡ false → (s.classes.slot_start ! c ≤ s.classes.slot_end ! c) × (s.classes.slot_end ! c ≤ length s.slots.offsets)
+      × (s.classes.static_start ! c ≤ s.classes.static_end ! c) × (s.classes.static_end ! c ≤ length s.statics.names)
+  class_ranges e f = row_ranges s c (sym e ∙ f)
+
+  pub slot_here : {r : Bool} {slot low offset : ℕ} → Passing (bad_slot s c) (s.classes.slot_start ! c) (s.classes.slot_end ! c) slot → low ≡ low_of s.slots.offsets (s.classes.slot_start ! c) (slot - s.classes.slot_start ! c)
+      → offset ≡ s.slots.offsets ! slot → r ≡ slot_fault s.names (s.slots.labels ! slot) (s.slots.weak ! slot) offset low → bad_slot s c (slot - s.classes.slot_start ! c) ≡ r
+  slot_here {slot} p at o e =
+      let q : s.classes.slot_start ! c + (slot - s.classes.slot_start ! c) ≡ slot = omega (arith, p.low) in
+      slot_fault_lem s c (slot - s.classes.slot_start ! c) ∙ rw (q, ← at, ← o) (sym e)
+
+  module _ (l : c < n) where
+    pub row_stops : {r : Bool} → r ≡ row s c → r ≡ true → c ≡ first_place (bad_class s) n
+    row_stops e f = searching_hit (bad_class s) n h l (row-hit s c (sym e ∙ f))
+
+    pub slot_stops : {r : Bool} {slot : ℕ} → r ≡ row s c → r ≡ false → Passing (bad_slot s c) (s.classes.slot_start ! c) (s.classes.slot_end ! c) slot → slot < s.classes.slot_end ! c
+        → bad_slot s c (slot - s.classes.slot_start ! c) ≡ true → c ≡ first_place (bad_class s) n
+    slot_stops e f p m b = searching_hit (bad_class s) n h l (slot-hit s c (sym e ∙ f) (sym (passing_hit _ _ _ p m b)))
+
+    -- past the slots, by the test of the statics
+    module _ {r r' : Bool} {slot from to : ℕ} (e : r ≡ row s c) (f : r ≡ false) (p : Passing (bad_slot s c) (s.classes.slot_start ! c) (s.classes.slot_end ! c) slot) (o : s.classes.slot_end ! c ≤ slot)
+        (a : from ≡ s.classes.static_start ! c) (b : to ≡ s.classes.static_end ! c)
+        (e' : r' ≡ any (static_fault_at s.statics.names s.statics.types s.names from) (to - from)) where
+      pub static_stops : r' ≡ true → c ≡ first_place (bad_class s) n
+      static_stops f' = searching_hit (bad_class s) n h l (static_hit s c (sym e ∙ f) (sym (passing_end _ _ _ p o)) (sym (static_faults s c from to a b) ∙ sym e' ∙ f'))
+
+      pub class_passed : r' ≡ false → Searching (bad_class s) n (c + 1)
+      class_passed f' = searching_more (bad_class s) n h l (class_none s c (sym e ∙ f) (sym (passing_end _ _ _ p o)) (sym (static_faults s c from to a b) ∙ sym e' ∙ f'))

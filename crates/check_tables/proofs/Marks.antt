@@ -1,6 +1,6 @@
 -- Dumped classes found among objects whose ids rise: where, which are at fault, and the marks that a walk over the classes leaves. Assumes nothing.
 use mathlib.Core.Path.{◌≡◌, refl, sym, ap, ◌∙◌}
-use mathlib.Core.Logic.{◌⊎◌, ⊎_elim}
+use mathlib.Core.Logic.{⊎_elim}
 use mathlib.Core.Bool.{Bool, true, false, cond, ◌||◌}
 use mathlib.Core.List.{List, [], ◌∷◌}
 use mathlib.Core.Option.{Option, none, some}
@@ -8,16 +8,19 @@ use Prim.Native.Nat.{ℕ, zero, suc, ◌+◌, ◌≤◌, ◌<◌}
 use native.Mathlib.Numerals.{add-one}
 use native.Mathlib.Omega.{arith}
 use borrow.Author.Tests.{lt-ltb, le-ltb, eq-eqb, ne_eqb, eqb-true}
+use Rattle.std.specs.Prelude.{Result}
+use Rattle.std.specs.Result.{result_unwrap_or}
 use lib.Dec.{eqb, ltb}
 use lib.ListN.{length, set, length-set, length-replicate}
 use lib.Seq.{get_or-set_same, get_or-set_other, ext_get_or}
 use Rattle.columns.specs.Lists.{◌!◌, any, find, or_else, all_of, any_of}
 use Rattle.columns.specs.Columns.{zeros}
-use Rattle.columns.specs.Ranks.{Rises}
+use Rattle.columns.specs.Ranks.{Rises, rank}
 use Rattle.columns.proofs.Lists.{lt_or_ge, tab-length, tab-at, eq_or_ne}
 use Rattle.columns.proofs.Search.{find-get, find_at}
 use Rattle.columns.proofs.Tests.{each_of, or_true, all_fails, or_none, and_true}
 use Rattle.columns.proofs.Written.{zero-at}
+use Rattle.lookup.specs.Lookup.{placed, lookup_of}
 use Rattle.rules.specs.Input.{Input, object_count, found_at}
 use Rattle.rules.specs.Verdict.{bad_find, found_badly}
 use Rattle.check_tables.specs.Found.{place_for, find_fault, mark_fault, marking, mark_to, mark_at, marks, marks_if, find_columns, dumped_at, is_dumped}
@@ -35,9 +38,13 @@ pub place_found : (ids : List ℕ) (id dumped o : ℕ) → dumped ≡ 1 → find
 unfolding place_for
 place_found ids id dumped o d f = rw (eq-eqb dumped 1 d, f)
 
-pub place-missing : (ids : List ℕ) (id dumped : ℕ) → dumped ≡ 1 → find ids id ≡ none → length ids ≡ place_for ids id dumped
-unfolding place_for
-place-missing ids id dumped d f = rw (eq-eqb dumped 1 d, f)
+pub place_sought : (ids : List ℕ) (id dumped : ℕ) {r : Result ℕ ℕ} → dumped ≡ 1 → r ≡ lookup_of ids id → result_unwrap_or r (length ids) ≡ place_for ids id dumped
+unfolding place_for lookup_of
+place_sought ids id dumped d e = rw (e, eq-eqb dumped 1 d) (go (find ids id))
+  where
+    go : (f : Option ℕ) → result_unwrap_or (placed f (rank ids id)) (length ids) ≡ or_else (length ids) f
+    go none = refl
+    go (some o) = refl
 
 pub place_other : (ids : List ℕ) (id dumped : ℕ) → (dumped ≡ 1 → ⊥) → length ids ≡ place_for ids id dumped
 unfolding place_for

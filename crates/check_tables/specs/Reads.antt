@@ -3,7 +3,6 @@
 -- the two. Assumes nothing.
 use Rattle.std.specs.Prelude.{ℕ, ◌+◌, ◌≡◌, Bool, false, not, List, [], ◌∷◌, eqb, leb, ltb, length}
 use Rattle.columns.specs.Lists.{◌!◌, all_of, any_of}
-use Rattle.index.specs.Copied.{Ids}
 use Rattle.rules.specs.declared.ReferencePolicy.{ReferencePolicy}
 use Rattle.rules.specs.Input.{Objects, Classes, Slots, Statics, Schema, Route, Input}
 use Rattle.rules.specs.Tables.{object_table, class_table, slot_table, static_table, raw_route, schema_of, input_of}

@@ -5,6 +5,7 @@ ghost use Rattle.rules.specs.Verdict.{bad_class};
 ghost use Rattle.check_tables.specs.Reads.{row_fault, slot_fault, static_fault, static_fault_at, schema_columns, Tables};
 
 // A class's flag, its reference kind and its two ranges.
+#[tactic(auto, unfolding(crate::specs::Reads::row_fault, columns::specs::Lists::any_of))]
 fn row_fault(
     dumped: u8,
     kind: u8,
@@ -17,58 +18,26 @@ fn row_fault(
 ) -> bool
     ensures { result ≡ row_fault dumped kind slot_start slot_end static_start static_end slots statics }
 {
-    if 1 < dumped {
-        return true;
-    }
-    if 4 < kind {
-        return true;
-    }
-    if slot_end < slot_start {
-        return true;
-    }
-    if slots < columns::index(slot_end) {
-        return true;
-    }
-    if static_end < static_start {
-        return true;
-    }
-    if statics < columns::index(static_end) {
-        return true;
-    }
-    false
+    1 < dumped
+        || 4 < kind
+        || slot_end < slot_start
+        || slots < columns::index(slot_end)
+        || static_end < static_start
+        || statics < columns::index(static_end)
 }
 
+#[tactic(auto, unfolding(crate::specs::Reads::slot_fault, columns::specs::Lists::any_of))]
 fn slot_fault(names: usize, label: u32, weak: u8, offset: u64, low: u64) -> bool
     ensures { result ≡ slot_fault names label weak offset low }
 {
-    if names <= columns::index(label) {
-        return true;
-    }
-    if 1 < weak {
-        return true;
-    }
-    if offset < low {
-        return true;
-    }
-    false
+    names <= columns::index(label) || 1 < weak || offset < low
 }
 
+#[tactic(auto, unfolding(crate::specs::Reads::static_fault, columns::specs::Lists::any_of, columns::specs::Lists::all_of))]
 fn static_fault(names: usize, name: u32, kind: u8) -> bool
     ensures { result ≡ static_fault names name kind }
 {
-    if names <= columns::index(name) {
-        return true;
-    }
-    if kind == 2 {
-        return false;
-    }
-    if kind < 4 {
-        return true;
-    }
-    if 11 < kind {
-        return true;
-    }
-    false
+    names <= columns::index(name) || !matches!(kind, 2 | 4..=11)
 }
 
 // Whether one of the statics from a place up to another is at fault.
@@ -82,14 +51,7 @@ fn statics_fault(
     requires { (from ≤ to) × (to ≤ length static_names.now) × (length static_types.now ≡ length static_names.now) }
     ensures { result ≡ any (static_fault_at static_names.now static_types.now names from) (to - from) }
 {
-    let mut i = from;
-    while i < to {
-        if static_fault(names, static_names[i], static_types[i]) {
-            return true;
-        }
-        i += 1;
-    }
-    false
+    (from..to).any(|i| static_fault(names, static_names[i], static_types[i]))
 }
 
 // The first class at fault, or the number of classes. The walk stops at the first faulty slot of the first faulty class.
@@ -113,11 +75,7 @@ pub fn first_class(
         slot_starts.now slot_ends.now static_starts.now static_ends.now
         slot_offsets.now slot_labels.now slot_weak.now static_names.now static_types.now names)) (length dumped.now) }
 {
-    let mut class = 0;
-    'check: loop {
-        if class >= dumped.len() {
-            break 'check class;
-        }
+    for class in 0..dumped.len() {
         if row_fault(
             dumped[class],
             class_kinds[class],
@@ -128,24 +86,21 @@ pub fn first_class(
             slot_offsets.len(),
             static_names.len(),
         ) {
-            break 'check class;
+            return class;
         }
-        let end = columns::index(slot_ends[class]);
-        let mut slot = columns::index(slot_starts[class]);
         let mut low: u64 = 0;
-        while slot < end {
-            let offset = columns::wide(slot_offsets[slot]);
+        for slot in columns::index(slot_starts[class])..columns::index(slot_ends[class]) {
+            let offset = u64::from(slot_offsets[slot]);
             if slot_fault(names, slot_labels[slot], slot_weak[slot], offset, low) {
-                break 'check class;
+                return class;
             }
             low = offset + 1;
-            slot += 1;
         }
         let from = columns::index(static_starts[class]);
         let to = columns::index(static_ends[class]);
         if statics_fault(static_names, static_types, names, from, to) {
-            break 'check class;
+            return class;
         }
-        class += 1;
     }
+    dumped.len()
 }

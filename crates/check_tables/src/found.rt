@@ -6,23 +6,19 @@ ghost use Rattle.columns.specs.Ranks.{Rises};
 ghost use Rattle.rules.specs.Verdict.{bad_find};
 ghost use Rattle.check_tables.specs.Found.{place_for, mark_fault, marking, dumped_at, is_dumped, find_fault, find_columns, marks, marks_if};
 
-use lookup::Found;
-
 // The object at which a class is found if it is dumped, or the number of objects.
 pub fn place_for(ids: &[u64], id: u64, dumped: u8) -> usize
     requires { Rises ids.now }
     ensures { result ≡ place_for ids.now id dumped }
 {
     if dumped == 1 {
-        return match lookup::find_sorted(ids, id, ids.len() / 2) {
-            Found::At(o) => o,
-            Found::Missing(_) => ids.len(),
-        };
+        return lookup::find_sorted(ids, id, ids.len() / 2).unwrap_or(ids.len());
     }
     ids.len()
 }
 
 // Whether a class found at o, if that is an object, is at fault: o is no class, or is marked. If not, o is marked with the class.
+#[tactic(auto, unfolding(crate::specs::Found::mark_fault, crate::specs::Found::marking, columns::specs::Lists::any_of, columns::specs::Lists::all_of))]
 fn mark_class(kinds: &[u8], working: &mut [u64], o: usize, class: usize) -> bool
     requires kinds_in_bounds { length kinds.now < length working.old }
     requires class_bound { class < 18446744073709551615 }
@@ -32,10 +28,7 @@ fn mark_class(kinds: &[u8], working: &mut [u64], o: usize, class: usize) -> bool
     if kinds.len() <= o {
         return false;
     }
-    if kinds[o] < 3 {
-        return true;
-    }
-    if 0 < working[o + 1] {
+    if kinds[o] < 3 || 0 < working[o + 1] {
         return true;
     }
     working[o + 1] = class as u64 + 1;
@@ -58,27 +51,20 @@ fn first_marked(
     ensures value { result ≡ first_place (bad_find (find_columns ids.now kinds.now class_ids.now dumped.now)) (length class_ids.now) }
     ensures working_after { working.new ≡ marks (find_columns ids.now kinds.now class_ids.now dumped.now) result (length working.old) }
 {
-    let mut class = 0;
-    while class < class_ids.len() {
+    for class in 0..class_ids.len() {
         let o = place_for(ids, class_ids[class], dumped[class]);
         if mark_class(kinds, working, o, class) {
             return class;
         }
-        class += 1;
     }
-    class
+    class_ids.len()
 }
 
+#[tactic(auto, unfolding(crate::specs::Found::is_dumped, columns::specs::Lists::all_of))]
 fn is_dumped(dumped: u8, a: u64, id: u64) -> bool
     ensures { result ≡ is_dumped dumped a id }
 {
-    if dumped == 1 {
-        if a == id {
-            return true;
-        }
-        return false;
-    }
-    false
+    dumped == 1 && a == id
 }
 
 // Whether a dumped class before this one has the id.
@@ -87,17 +73,11 @@ fn dumped_before(class_ids: &[u64], dumped: &[u8], id: u64, class: usize) -> boo
     requires dumped_len { length dumped.now ≡ length class_ids.now }
     ensures { result ≡ any (dumped_at class_ids.now dumped.now id) class }
 {
-    let mut b = 0;
-    while b < class {
-        if is_dumped(dumped[b], class_ids[b], id) {
-            return true;
-        }
-        b += 1;
-    }
-    false
+    (0..class).any(|b| is_dumped(dumped[b], class_ids[b], id))
 }
 
 // Whether a class found at o, if that is an object, is at fault, without marks.
+#[tactic(auto, unfolding(crate::specs::Found::find_fault, columns::specs::Lists::any_of, columns::specs::Lists::all_of))]
 fn find_fault(
     ids: &[u64],
     kinds: &[u8],
@@ -111,13 +91,7 @@ fn find_fault(
     requires class_in_bounds { class ≤ length class_ids.now }
     ensures { result ≡ find_fault (find_columns ids.now kinds.now class_ids.now dumped.now) o class }
 {
-    if ids.len() <= o {
-        return false;
-    }
-    if kinds[o] < 3 {
-        return true;
-    }
-    dumped_before(class_ids, dumped, ids[o], class)
+    o < ids.len() && (kinds[o] < 3 || dumped_before(class_ids, dumped, ids[o], class))
 }
 
 // The first class found at fault, or the number of classes, where there is no room for marks.
@@ -127,15 +101,13 @@ fn first_compared(ids: &[u64], kinds: &[u8], class_ids: &[u64], dumped: &[u8]) -
     requires dumped_len { length dumped.now ≡ length class_ids.now }
     ensures { result ≡ first_place (bad_find (find_columns ids.now kinds.now class_ids.now dumped.now)) (length class_ids.now) }
 {
-    let mut class = 0;
-    while class < class_ids.len() {
+    for class in 0..class_ids.len() {
         let o = place_for(ids, class_ids[class], dumped[class]);
         if find_fault(ids, kinds, class_ids, dumped, o, class) {
             return class;
         }
-        class += 1;
     }
-    class
+    class_ids.len()
 }
 
 // The first class found at an object that is no class, or where an earlier class was found; or the number of classes.

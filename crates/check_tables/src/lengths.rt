@@ -5,43 +5,15 @@ ghost use Rattle.rules.specs.Verdict.{differs, schema_lengths, bad_size, limits}
 ghost use Rattle.rules.specs.Tables.{class_table, slot_table, static_table, schema_of};
 ghost use Rattle.check_tables.specs.Reads.{size_only};
 
-pub fn differ(n: usize, a: usize) -> bool
-    ensures { result ≡ differs n (a ∷ []) }
+// Whether one of the lengths differs from n.
+pub fn differ(n: usize, lengths: &[usize]) -> bool
+    ensures { result ≡ differs n lengths.now }
 {
-    if a == n {
-        return false;
-    }
-    true
-}
-
-pub fn differ2(n: usize, a: usize, b: usize) -> bool
-    ensures { result ≡ differs n (a ∷ b ∷ []) }
-{
-    if a == n {
-        return differ(n, b);
-    }
-    true
-}
-
-pub fn differ3(n: usize, a: usize, b: usize, c: usize) -> bool
-    ensures { result ≡ differs n (a ∷ b ∷ c ∷ []) }
-{
-    if a == n {
-        return differ2(n, b, c);
-    }
-    true
-}
-
-fn differ4(n: usize, a: usize, b: usize, c: usize, d: usize) -> bool
-    ensures { result ≡ differs n (a ∷ b ∷ c ∷ d ∷ []) }
-{
-    if a == n {
-        return differ3(n, b, c, d);
-    }
-    true
+    lengths.iter().any(|length| *length != n)
 }
 
 // Whether columns of the classes, the slots or the statics differ in length.
+#[tactic(auto, unfolding(rules::specs::Verdict::schema_lengths, columns::specs::Lists::any_of))]
 pub fn schema_lengths(
     class_ids: &[u64],
     loaders: &[u64],
@@ -63,28 +35,25 @@ pub fn schema_lengths(
         result ≡ schema_lengths schema }
 {
     let n = class_ids.len();
-    if differ3(n, loaders.len(), dumped.len(), class_kinds.len()) {
-        return true;
-    }
-    if differ4(
-        n,
-        slot_starts.len(),
-        slot_ends.len(),
-        static_starts.len(),
-        static_ends.len(),
-    ) {
-        return true;
-    }
-    if differ2(slot_offsets.len(), slot_labels.len(), slot_weak.len()) {
-        return true;
-    }
-    if differ2(static_names.len(), static_types.len(), static_values.len()) {
-        return true;
-    }
-    false
+    differ(n, &[loaders.len(), dumped.len(), class_kinds.len()])
+        || differ(
+            n,
+            &[
+                slot_starts.len(),
+                slot_ends.len(),
+                static_starts.len(),
+                static_ends.len(),
+            ],
+        )
+        || differ(slot_offsets.len(), &[slot_labels.len(), slot_weak.len()])
+        || differ(
+            static_names.len(),
+            &[static_types.len(), static_values.len()],
+        )
 }
 
 // Whether the objects, classes, names, slots or statics are over the limit.
+#[tactic(auto, unfolding(rules::specs::Verdict::limits, columns::specs::Lists::any_of))]
 pub fn over_limit(
     objects: usize,
     classes: usize,
@@ -94,32 +63,16 @@ pub fn over_limit(
 ) -> bool
     ensures { result ≡ limits objects classes names slots statics }
 {
-    if 67108864 < objects {
-        return true;
-    }
-    if 67108864 < classes {
-        return true;
-    }
-    if 16777216 < names {
-        return true;
-    }
-    if 268435456 < slots {
-        return true;
-    }
-    if 268435456 < statics {
-        return true;
-    }
-    false
+    67108864 < objects
+        || 67108864 < classes
+        || 16777216 < names
+        || 268435456 < slots
+        || 268435456 < statics
 }
 
+#[tactic(auto, unfolding(rules::specs::Verdict::bad_size, columns::specs::Lists::any_of))]
 pub fn bad_size(size: usize) -> bool
     ensures { result ≡ bad_size (size_only size) }
 {
-    if size == 4 {
-        return false;
-    }
-    if size == 8 {
-        return false;
-    }
-    true
+    !matches!(size, 4 | 8)
 }

@@ -5,28 +5,14 @@ ghost use Rattle.rules.specs.Verdict.{bad_object, bad_root};
 ghost use Rattle.check_tables.specs.Reads.{object_columns, object_fault};
 
 // Whether an object with the id `before` it is at fault. Ids start above 0, so one test finds a zero id and one that does not rise.
+#[tactic(auto, unfolding(crate::specs::Reads::object_fault, columns::specs::Lists::any_of, columns::specs::Lists::all_of))]
 fn object_fault(before: u64, id: u64, kind: u8, class: u32, len: u32, classes: usize) -> bool
     ensures { result ≡ object_fault before id kind class len classes }
 {
-    if id <= before {
-        return true;
-    }
-    if 3 < kind {
-        return true;
-    }
-    if kind == 0 {
-        if classes <= columns::index(class) {
-            return true;
-        }
-        return false;
-    }
-    if kind == 1 {
-        if 268435456 < len {
-            return true;
-        }
-        return false;
-    }
-    false
+    id <= before
+        || 3 < kind
+        || (kind == 0 && classes <= columns::index(class))
+        || (kind == 1 && 268435456 < len)
 }
 
 // The first object at fault, or the number of objects.
@@ -43,8 +29,7 @@ pub fn first_object(
     ensures { result ≡ first_place (bad_object (object_columns ids.now kinds.now classes.now lengths.now class_ids.now)) (length ids.now) }
 {
     let mut before = 0;
-    let mut o = 0;
-    while o < ids.len() {
+    for o in 0..ids.len() {
         let id = ids[o];
         if object_fault(
             before,
@@ -57,21 +42,16 @@ pub fn first_object(
             return o;
         }
         before = id;
-        o += 1;
     }
-    o
+    ids.len()
 }
 
 // The first root that is no object, or the number of roots.
 pub fn first_root(roots: &[u32], objects: usize) -> usize
     ensures { result ≡ first_place (bad_root objects roots.now) (length roots.now) }
 {
-    let mut i = 0;
-    while i < roots.len() {
-        if objects <= columns::index(roots[i]) {
-            return i;
-        }
-        i += 1;
-    }
-    i
+    roots
+        .iter()
+        .position(|root| objects <= columns::index(*root))
+        .unwrap_or(roots.len())
 }

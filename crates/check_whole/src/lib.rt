@@ -2,6 +2,6 @@
 // have their names here. `check_input` puts them in order.
 #![tactic(auto)]
 
-pub use check_limit::{accepted, clear, least_room, limited, settle};
+pub use check_limit::{clear, least_room, limited, settle};
 
 pub mod tables;

@@ -13,6 +13,7 @@ ghost use Rattle.check_whole.specs.Whole.{bodies_only, dumped_columns};
 use check_tables::{classes, found, lengths};
 
 // Whether columns of one table differ in length.
+#[tactic(auto, unfolding(rules::specs::Verdict::bad_lengths, rules::specs::Verdict::route_lengths, columns::specs::Lists::any_of))]
 pub fn copied_lengths(
     ids: &[u64],
     kinds: &[u8],
@@ -42,37 +43,29 @@ pub fn copied_lengths(
         let input = input_of (object_table now_of ids kinds classes lengths) schema (copied_route now_of codes escape_places escape_ids 0 starts) [] no_policy in
         result ≡ bad_lengths input }
 {
-    if lengths::differ3(ids.len(), kinds.len(), classes.len(), lengths.len()) {
-        return true;
-    }
-    if lengths::schema_lengths(
-        class_ids,
-        loaders,
-        dumped,
-        class_kinds,
-        slot_starts,
-        slot_ends,
-        static_starts,
-        static_ends,
-        slot_offsets,
-        slot_labels,
-        slot_weak,
-        static_names,
-        static_types,
-        static_values,
-    ) {
-        return true;
-    }
-    if lengths::differ(escape_places.len(), escape_ids.len()) {
-        return true;
-    }
-    if lengths::differ(ids.len(), starts.len()) {
-        return true;
-    }
-    false
+    lengths::differ(ids.len(), &[kinds.len(), classes.len(), lengths.len()])
+        || lengths::schema_lengths(
+            class_ids,
+            loaders,
+            dumped,
+            class_kinds,
+            slot_starts,
+            slot_ends,
+            static_starts,
+            static_ends,
+            slot_offsets,
+            slot_labels,
+            slot_weak,
+            static_names,
+            static_types,
+            static_values,
+        )
+        || lengths::differ(escape_places.len(), &[escape_ids.len()])
+        || lengths::differ(ids.len(), &[starts.len()])
 }
 
 // Whether columns of one table differ in length.
+#[tactic(auto, unfolding(rules::specs::Verdict::bad_lengths, rules::specs::Verdict::route_lengths, columns::specs::Lists::any_of))]
 pub fn raw_lengths(
     ids: &[u64],
     kinds: &[u8],
@@ -100,31 +93,24 @@ pub fn raw_lengths(
         let input = input_of (object_table now_of ids kinds classes lengths) schema (bodies_only starts.now bodies.now) [] no_policy in
         result ≡ bad_lengths input }
 {
-    if lengths::differ3(ids.len(), kinds.len(), classes.len(), lengths.len()) {
-        return true;
-    }
-    if lengths::schema_lengths(
-        class_ids,
-        loaders,
-        dumped,
-        class_kinds,
-        slot_starts,
-        slot_ends,
-        static_starts,
-        static_ends,
-        slot_offsets,
-        slot_labels,
-        slot_weak,
-        static_names,
-        static_types,
-        static_values,
-    ) {
-        return true;
-    }
-    if lengths::differ2(ids.len(), starts.len(), bodies.len()) {
-        return true;
-    }
-    false
+    lengths::differ(ids.len(), &[kinds.len(), classes.len(), lengths.len()])
+        || lengths::schema_lengths(
+            class_ids,
+            loaders,
+            dumped,
+            class_kinds,
+            slot_starts,
+            slot_ends,
+            static_starts,
+            static_ends,
+            slot_offsets,
+            slot_labels,
+            slot_weak,
+            static_names,
+            static_types,
+            static_values,
+        )
+        || lengths::differ(ids.len(), &[starts.len(), bodies.len()])
 }
 
 // The first class at fault, by its own tables or by where it is found; or the number of classes.
@@ -174,8 +160,5 @@ pub fn first_dumped(
         static_types,
         names,
     );
-    if class < found {
-        return class;
-    }
-    found
+    if class < found { class } else { found }
 }

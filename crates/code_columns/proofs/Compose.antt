@@ -28,9 +28,9 @@ use Rattle.rules.proofs.Acceptance.{refuse_at}
 use Rattle.labels.specs.Coding.{LaidOut, TableOf, LabelsLaid, escapes_in}
 use Rattle.labels.specs.Fields.{Naming, named_by}
 use Rattle.labels.proofs.Table.{table-length}
-use Rattle.labels.proofs.Codes.{all_length, all_coded, escapes_coded}
+use Rattle.labels.proofs.Coded.{all_length, all_coded, escapes_coded}
 use Rattle.labels.proofs.Listed.{named_by_lem, fields-named}
-use Rattle.code_stages.specs.Stages.{hand_on, label_room, space_short, Where, Ready, OffsetsReady, NamesReady, fields_by, escapes_of}
+use Rattle.code_stages.specs.Stages.{hand_on, label_room, space_short, Where, Ready, NamesReady, fields_by, escapes_of}
 use Rattle.code_stages.specs.Stages.{offsets_says, OffsetsCoded, fields_says, space_says, FieldsWritten, codes_says, codes_all, CodesCoded}
 use Rattle.code_stages.specs.Settling.{used_to, CodingSettled}
 use Rattle.code_columns.specs.Finished.{PartsCoding, Hands, Finished}
@@ -41,9 +41,6 @@ abbrev coded_of : List ℕ → List ℕ → List ℕ → List ℕ → List ℕ �
 coded_of = coding_left (λ (l : List ℕ). l)
 
 -- What each stage needs, of what the checks have found.
-pub ready_offsets : {g : Naming} {classes names : ℕ} {offsets labels : List ℕ} → Ready g classes names offsets labels → OffsetsReady offsets
-ready_offsets r = record { few_offsets = r.few_offsets; climbs = r.laid.rises }
-
 pub ready_names : {g : Naming} {classes names : ℕ} {offsets labels : List ℕ} → Ready g classes names offsets labels → NamesReady g classes names
 ready_names r = record { ranges = r.ranges; few_names = r.few_names }
 

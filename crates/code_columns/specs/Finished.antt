@@ -1,5 +1,5 @@
 -- What coding answers and leaves in the eleven columns that it is lent, over the schema and the plain columns that it is handed. Assumes nothing.
-use Rattle.std.specs.Prelude.{ℕ, ◌≡◌, List, []}
+use Rattle.std.specs.Prelude.{ℕ, ◌≡◌, List}
 use Rattle.rules.specs.Input.{Schema, class_count}
 use Rattle.rules.specs.Edges.{Parts}
 use Rattle.rules.specs.Needs.{Lent, short_of_parts}

@@ -8,12 +8,12 @@ ghost use Rattle.labels.specs.Fields.{name_columns};
 ghost use Rattle.code_columns.specs.Stages.{Where, Ready};
 ghost use Rattle.code_columns.specs.Finished.{PartsCoding};
 
-use rules::Built;
+use rules::{Counts, Refusal};
 
 // The coded columns of the plain graph whose offsets and labels these are. A refusal is handed on; an acceptance, with nothing coded yet, takes the
 // numbers of long offsets, fields and escapes, or turns into ROOM. After a refusal all eleven columns are zero.
 pub fn code_parts(
-    v: Built,
+    v: Result<Counts, Refusal>,
     classes: usize,
     slot_starts: &[u32],
     slot_ends: &[u32],
@@ -36,7 +36,7 @@ pub fn code_parts(
     edge_codes: &mut [u16],
     counting: &mut [u64],
     ranking: &mut [u64],
-) -> Built
+) -> Result<Counts, Refusal>
     requires { let named = name_columns (λ x. x.now) slot_starts slot_ends static_starts static_ends slot_labels static_names static_types in
         Where (built_says v) (Ready named classes names offsets.now labels.now) }
     ensures { let named = name_columns now_of slot_starts slot_ends static_starts static_ends slot_labels static_names static_types in

@@ -8,25 +8,28 @@ use lib.Dec.{ltb}
 use lib.ListN.{length, set, take}
 use borrow.Author.Tests.{lt-ltb, le-ltb, ltb-false}
 use Rattle.columns.specs.Lists.{◌!◌, any_of}
-use Rattle.columns.specs.Columns.{accepts, over, leaves, Begins}
+use Rattle.columns.specs.Columns.{accepts, over, leaves}
 use Rattle.columns.proofs.Tests.{none_of, or_none, some_of}
 use Rattle.columns.proofs.Written.{begins_over}
+use Rattle.std.specs.Prelude.{Result, Ok, Err}
+use Rattle.std.specs.Result.{IsErrAnd}
+use Rattle.std.proofs.lemmas.Result.{err_from_is_err_and}
 use Rattle.store.specs.declared.CodedOffsets.{CodedOffsets}
+use Rattle.store.specs.declared.OffsetsError.{OffsetsError}
 use Rattle.store.specs.Blocked.{coded_says, coding_says, Coding, blocks_of, long_rows}
 use Rattle.store.proofs.Verdict.{climbs_high}
 use Rattle.rules.specs.declared.Refusal.{Refusal}
 use Rattle.rules.specs.declared.Counts.{Counts}
-use Rattle.rules.specs.declared.Built.{Built}
-use Rattle.rules.specs.declared.Built.TheVariants.{Done, Refused}
 use Rattle.rules.specs.Types.{refusal_says, built_says, loader_label}
 use Rattle.rules.proofs.Types.{refusal_refuses}
 use Rattle.labels.specs.Coding.{LaidOut, escapes_in, escaped_to, Escapes}
-use Rattle.labels.proofs.Codes.{escaped_in, codes_laid}
+use Rattle.labels.proofs.Coded.{escaped_in, codes_laid}
 use Rattle.labels.proofs.Escapes.{escapes_places}
 use Rattle.code_stages.specs.Stages.{hand_on, unless_short, label_room, space_short, OffsetsReady, offsets_says, OffsetsCoded, fields_says, space_says, codes_says}
 use Rattle.code_stages.specs.Stages.{codes_all, CodesCoded, FieldsWritten, escapes_of}
-use Rattle.rules.specs.Labels.{code_table, coded}
+use Rattle.rules.specs.Labels.{fields_of, code_table, coded}
 use Rattle.labels.specs.Fields.{Chosen}
+use Rattle.labels.proofs.Listed.{fields_few}
 use Rattle.code_stages.specs.Settling.{used_to}
 
 -- a pair of columns that is short of a need, by its first and by its second column
@@ -55,12 +58,16 @@ pub used_none : (r : Refusal) (n : ℕ) → used_to (refusal_says r) n ≡ 0
 used_none r n = ap (λ (b : Bool). cond b n 0) (refusal_refuses r)
 
 -- an answer that is an acceptance, and one that is a refusal
-pub accepts-done : {v : Built} {n : Counts} → v ≡ Done n → accepts (built_says v) ≡ true
+pub accepts-done : {v : Result Counts Refusal} {n : Counts} → v ≡ Ok n → accepts (built_says v) ≡ true
 unfolding accepts
-accepts-done e = ap (λ (b : Built). accepts (built_says b)) e
+accepts-done e = ap (λ (b : Result Counts Refusal). accepts (built_says b)) e
 
-pub accepts_refused : {v : Built} {r : Refusal} → v ≡ Refused r → accepts (built_says v) ≡ false
-accepts_refused {v} {r} e = ap (λ (b : Built). accepts (built_says b)) e ∙ refusal_refuses r
+pub accepts_refused : {v : Result Counts Refusal} {r : Refusal} → v ≡ Err r → accepts (built_says v) ≡ false
+accepts_refused {v} {r} e = ap (λ (b : Result Counts Refusal). accepts (built_says b)) e ∙ refusal_refuses r
+
+-- what a `?` hands on
+pub handed : {v r : Result Counts Refusal} {e : Refusal} → v ≡ Err e → IsErrAnd r (λ d. d ≡ e) → (r ≡ v) × (accepts (built_says v) ≡ false)
+handed {r = r} w h = let p = err_from_is_err_and r h in (p.1 ∙ ap (λ (d : Refusal). Err d) p.2 ∙ sym w, accepts_refused w)
 
 pub refused_never : {A : Type 0} (says : List ℕ) → accepts says ≡ false → accepts says ≡ true → A
 refused_never says n y = absurd (true≢false (sym y ∙ n))
@@ -109,7 +116,7 @@ module _ (vs : List ℕ) (ready : OffsetsReady vs) where
   offsets-chain before false true b n long = refl
   offsets-chain before false false b n long = refl
 
-  module _ {nb ns na nv : ℕ} {o : CodedOffsets} {b s a v : List ℕ} (coding : Coding vs nb ns na nv o b s a v) (before says : List ℕ) (y : accepts before ≡ true)
+  module _ {nb ns na nv : ℕ} {o : Result CodedOffsets OffsetsError} {b s a v : List ℕ} (coding : Coding vs nb ns na nv o b s a v) (before says : List ℕ) (y : accepts before ≡ true)
       (e : says ≡ cond (accepts (coded_says o)) (set before 4 (coded_says o ! 3)) (coded_says o)) where
     offsets-accepts : accepts says ≡ true → accepts (coded_says o) ≡ true
     offsets-accepts h = go (accepts (coded_says o)) refl (ap accepts (sym e) ∙ h)
@@ -157,6 +164,13 @@ module _ (before : List ℕ) (need names nf nt : ℕ) where
 -- the fields that were chosen, and the table of them
 pub chosen_front : {fields f₀ f : List ℕ} {r : ℕ} → Chosen fields f₀ r f → take r f ≡ fields
 chosen_front {fields} {f₀} {f} w = ap (λ (n : ℕ). take n f) w.used ∙ begins_over fields f₀ w.front
+
+-- how many they are
+pub chosen_within : {fields f₀ f : List ℕ} {r n : ℕ} → Chosen fields f₀ r f → length fields ≤ n → r ≤ n
+chosen_within w l = omega (arith, w.used, l)
+
+pub chosen_few : (names : ℕ) (named labels : List ℕ) {f₀ f : List ℕ} {r : ℕ} → Chosen (fields_of names named labels) f₀ r f → r ≤ 32767
+chosen_few names named labels w = omega (arith, w.used, fields_few names named labels)
 
 pub fields_written : (names : ℕ) {fields f₀ f : List ℕ} (t₀ : List ℕ) {t : List ℕ} {r : ℕ} → Chosen fields f₀ r f → t ≡ over (code_table names (take r f)) t₀
     → FieldsWritten names fields f t

@@ -6,29 +6,22 @@ ghost use Rattle.code_stages.specs.Stages.{Where, CodesReady, CodesCoded};
 
 use crate::answers;
 use labels::code::{ELEMENT, ESCAPED};
-use rules::Built;
+use rules::{Counts, Refusal};
 
 // How many of the first n codes are escaped: two bytes an edge.
 fn count_escaped(edge_codes: &[u16], n: usize) -> usize
     requires { n ≤ length edge_codes.now }
     ensures { result ≡ length (escaped_to edge_codes.now n) }
 {
-    let mut rows = 0;
-    let mut e = 0;
-    while e < n {
-        if edge_codes[e] % ELEMENT == ESCAPED {
-            rows += 1;
-            e += 1;
-        } else {
-            e += 1;
-        }
-    }
-    rows
+    edge_codes[..n]
+        .iter()
+        .filter(|code| **code % ELEMENT == ESCAPED)
+        .count()
 }
 
 // The codes are written before their escapes are counted, so that each label is looked up once; where there is no room for codes, escapes are only counted.
 pub fn codes_stage(
-    v: Built,
+    v: Result<Counts, Refusal>,
     offsets: &[u64],
     labels: &[u32],
     names: usize,
@@ -36,32 +29,30 @@ pub fn codes_stage(
     escape_at: &mut [u64],
     escape_label: &mut [u32],
     edge_codes: &mut [u16],
-) -> Built
+) -> Result<Counts, Refusal>
     requires { Where (built_says v) (CodesReady names table.now offsets.now labels.now) }
     ensures { CodesCoded (built_says v) names table.now offsets.now labels.now
         edge_codes.old escape_at.old escape_label.old
         (built_says result) edge_codes.new escape_at.new escape_label.new }
 {
-    let Built::Done(c) = v else {
-        return v;
-    };
+    let c = v?;
     let edges = labels.len();
     if edge_codes.len() < edges {
         let rows = label_codes::count_escapes(offsets, labels, names, table);
-        return answers::first_short(
+        return Err(answers::first_short(
             rows,
             edges,
             escape_at.len(),
             escape_label.len(),
             edge_codes.len(),
             8,
-        );
+        ));
     }
     label_codes::code_objects(offsets, labels, names, table, edge_codes);
     let rows = count_escaped(edge_codes, edges);
     if answers::is_short(rows, escape_at.len(), escape_label.len()) {
-        return answers::room(7);
+        return Err(Refusal::Room(7));
     }
     label_codes::write_escapes(labels, edge_codes, escape_at, escape_label);
-    answers::with_escapes(c, rows)
+    Ok(Counts { escapes: rows, ..c })
 }

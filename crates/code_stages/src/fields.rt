@@ -8,12 +8,11 @@ ghost use Rattle.rules.specs.Types.{built_says};
 ghost use Rattle.labels.specs.Fields.{name_columns, Named};
 ghost use Rattle.code_stages.specs.Stages.{Where, NamesReady, RankReady, fields_by, fields_says, FieldsWritten};
 
-use crate::answers;
-use rules::Built;
+use rules::{Counts, Refusal};
 
 // Whether buffer 6 has room. The code table serves as marks.
 pub fn fields_room(
-    v: Built,
+    v: Result<Counts, Refusal>,
     classes: usize,
     slot_starts: &[u32],
     slot_ends: &[u32],
@@ -26,17 +25,15 @@ pub fn fields_room(
     names: usize,
     fields: usize,
     table: &mut [u16],
-) -> Built
+) -> Result<Counts, Refusal>
     requires { let named = name_columns (λ x. x.now) slot_starts slot_ends static_starts static_ends slot_labels static_names static_types in
         Where (built_says v) (NamesReady named classes names) }
     ensures { let named = name_columns now_of slot_starts slot_ends static_starts static_ends slot_labels static_names static_types in
         built_says result ≡ fields_says (built_says v) (length (fields_by named classes names labels.now)) names fields (length table.old) }
 {
-    let Built::Done(c) = v else {
-        return v;
-    };
+    let c = v?;
     if table.len() < names + 2 {
-        return answers::room(6);
+        return Err(Refusal::Room(6));
     }
     let n = label_fields::count_fields(
         classes,
@@ -52,9 +49,9 @@ pub fn fields_room(
         table,
     );
     if fields < n {
-        return answers::room(6);
+        return Err(Refusal::Room(6));
     }
-    answers::with_fields(c, n)
+    Ok(Counts { fields: n, ..c })
 }
 
 // The code table of the first n fields.
@@ -68,7 +65,7 @@ pub(crate) fn write_table(fields: &[u32], n: usize, names: usize, table: &mut [u
 
 // The fields that have codes and the code table, over the fronts of their columns.
 pub fn write_fields(
-    v: Built,
+    v: Result<Counts, Refusal>,
     classes: usize,
     slot_starts: &[u32],
     slot_ends: &[u32],
@@ -90,7 +87,7 @@ pub fn write_fields(
     ensures { let named = name_columns now_of slot_starts slot_ends static_starts static_ends slot_labels static_names static_types in
         Where (built_says v) (FieldsWritten names (fields_by named classes names labels.now) fields.new table.new) }
 {
-    if rules::accepted(v) {
+    if v.is_ok() {
         let n = label_fields::write_fields(
             classes,
             slot_starts,
@@ -108,6 +105,5 @@ pub fn write_fields(
             ranking,
         );
         write_table(fields, n, names, table);
-        return;
     }
 }

@@ -7,10 +7,10 @@ ghost use Rattle.code_stages.specs.Stages.{Where};
 ghost use Rattle.code_stages.specs.Settling.{CodingSettled};
 
 use crate::answers;
-use rules::Built;
+use rules::{Counts, Refusal};
 
 pub fn settle(
-    b: Built,
+    b: Result<Counts, Refusal>,
     names: usize,
     edges: usize,
     bases: &mut [u64],
@@ -30,16 +30,16 @@ pub fn settle(
         let left = coding_left new_of bases short long_at long_value fields table escape_at escape_label edge_codes counting ranking in
         CodingSettled (built_says b) names edges before left }
 {
-    columns::zero_u64(bases, answers::used_to(b, bases.len()));
-    columns::zero_u16(short, answers::used_to(b, short.len()));
-    columns::zero_u32(long_at, answers::used_to(b, long_at.len()));
-    columns::zero_u64(long_value, answers::used_to(b, long_value.len()));
-    columns::zero_u32(fields, answers::fields_of(b));
-    columns::zero_u16(table, answers::table_of(b, names));
+    columns::zero(bases, answers::used_to(b, bases.len()));
+    columns::zero(short, answers::used_to(b, short.len()));
+    columns::zero(long_at, answers::used_to(b, long_at.len()));
+    columns::zero(long_value, answers::used_to(b, long_value.len()));
+    columns::zero(fields, answers::fields_of(b));
+    columns::zero(table, answers::table_of(b, names));
     let escapes = answers::escapes_of(b);
-    columns::zero_u64(escape_at, escapes);
-    columns::zero_u32(escape_label, escapes);
-    columns::zero_u16(edge_codes, answers::used_to(b, edges));
-    columns::zero_u64(counting, 0);
-    columns::zero_u64(ranking, 0);
+    columns::zero(escape_at, escapes);
+    columns::zero(escape_label, escapes);
+    columns::zero(edge_codes, answers::used_to(b, edges));
+    columns::zero(counting, 0);
+    columns::zero(ranking, 0);
 }

@@ -6,7 +6,7 @@ ghost use Rattle.labels.specs.Fields.{name_columns};
 ghost use Rattle.code_stages.specs.Stages.{Where, SpaceReady, fields_by, escapes_of, space_says};
 
 use crate::{answers, fields};
-use rules::Built;
+use rules::{Counts, Refusal};
 
 // The need of buffer 7, without counting and ranking space.
 fn escapes_without(
@@ -29,7 +29,7 @@ fn escapes_without(
     ensures { let named = name_columns now_of slot_starts slot_ends static_starts static_ends slot_labels static_names static_types in
         result ≡ escapes_of (fields_by named classes names labels.now) offsets.now labels.now }
 {
-    columns::zero_u16(table, 0);
+    columns::zero(table, 0);
     label_fields::fields::mark_named(
         classes,
         slot_starts,
@@ -53,7 +53,7 @@ fn escapes_without(
 
 // An acceptance is handed on where buffer 9 has room.
 pub fn space_room(
-    v: Built,
+    v: Result<Counts, Refusal>,
     classes: usize,
     slot_starts: &[u32],
     slot_ends: &[u32],
@@ -72,16 +72,14 @@ pub fn space_room(
     ranking: usize,
     fields: &mut [u32],
     table: &mut [u16],
-) -> Built
+) -> Result<Counts, Refusal>
     requires { let named = name_columns (λ x. x.now) slot_starts slot_ends static_starts static_ends slot_labels static_names static_types in
         Where (built_says v) (SpaceReady named classes names offsets.now labels.now (length fields.old) (length table.old)) }
     ensures { let named = name_columns now_of slot_starts slot_ends static_starts static_ends slot_labels static_names static_types in
         let escapes = escapes_of (fields_by named classes names labels.now) offsets.now labels.now in
         built_says result ≡ space_says (built_says v) escapes (length labels.now) names escape_at escape_label edge_codes counting ranking }
 {
-    let Built::Done(_) = v else {
-        return v;
-    };
+    let c = v?;
     if answers::is_short(names + 2, counting, ranking) {
         let rows = escapes_without(
             classes,
@@ -98,7 +96,14 @@ pub fn space_room(
             fields,
             table,
         );
-        return answers::first_short(rows, labels.len(), escape_at, escape_label, edge_codes, 9);
+        return Err(answers::first_short(
+            rows,
+            labels.len(),
+            escape_at,
+            escape_label,
+            edge_codes,
+            9,
+        ));
     }
-    v
+    Ok(c)
 }

@@ -12,3 +12,4 @@ pub mod Search
 pub mod First
 pub mod Written
 pub mod Answers
+pub mod Numbers

@@ -9,7 +9,7 @@ use native.Mathlib.Numerals.{add-one}
 use native.Mathlib.Omega.{arith}
 use lib.ListN.{length, get_or, length-append, get_or-append}
 use lib.Seq.{append_snoc, get_or_at}
-use Rattle.columns.specs.Lists.{◌!◌, collect, tab, places, first_place}
+use Rattle.columns.specs.Lists.{◌!◌, tab, places, first_place}
 use Rattle.columns.specs.Ranks.{Rises}
 
 pub lt_or_ge : (a b : ℕ) → (a < b) ⊎ (b ≤ a)

@@ -7,9 +7,8 @@ use native.Mathlib.Nat.{add-zero, add-suc, not-suc-le-zero}
 use native.Mathlib.Numerals.{add-one}
 use native.Mathlib.Omega.{arith}
 use borrow.Author.Tests.{lt-ltb, le-ltb}
-use lib.Dec.{ltb}
 use lib.ListN.{length}
-use Rattle.columns.specs.Lists.{◌!◌, one}
+use Rattle.columns.specs.Lists.{◌!◌}
 use Rattle.columns.specs.Ranks.{Rises, Climbs, rank, Ranked, front, halve, behind, bisect}
 use Rattle.columns.proofs.Lists.{lt_or_ge}
 
@@ -36,7 +35,7 @@ module _ (xs : List ℕ) (x lo n : ℕ) where
   front-one : n ≤ 1 → front xs x lo n ≡ lo
   front-one o = ⊎_elim (λ h. omega (arith, front_below h)) (λ h. omega (arith, front_above h)) (lt_or_ge (xs ! (lo + n / 2)) x)
 
-halve-one : (f : ℕ) (xs : List ℕ) (x lo n : ℕ) → n ≤ 1 → halve f xs x lo n ≡ lo
+pub halve-one : (f : ℕ) (xs : List ℕ) (x lo n : ℕ) → n ≤ 1 → halve f xs x lo n ≡ lo
 unfolding halve
 halve-one zero xs x lo n h = refl
 halve-one (suc f) xs x lo n h = rw (front-one xs x lo n h) (halve-one f xs x lo (n - n / 2) (omega arith))

@@ -1,13 +1,15 @@
 -- Laws of a column: written from the front, zeros from a place on, and what an answer leaves. Assumes nothing.
 use mathlib.Core.Path.{◌≡◌, refl, sym, ap, ◌∙◌}
-use mathlib.Core.Bool.{Bool, true, false, cond}
-use mathlib.Core.List.{List, [], ◌∷◌, ◌++◌, append_assoc, append-nil, map, map-append}
-use Prim.Native.Nat.{ℕ, zero, suc, ◌+◌, ◌-◌, ◌≤◌, ◌<◌, zero-le}
-use native.Mathlib.Nat.{sub_self, sub-zero}
+use mathlib.Core.Bool.{Bool, true, false}
+use mathlib.Core.List.{List, [], ◌∷◌, ◌++◌, append-nil}
+use Prim.Native.Nat.{ℕ, zero, suc, ◌+◌, ◌-◌, ◌≤◌, ◌<◌}
+use native.Mathlib.Nat.{sub-zero}
 use native.Mathlib.Numerals.{add-one}
 use native.Mathlib.Omega.{arith}
-use lib.ListN.{length, set, take, drop, replicate, length-append, length-take, length-drop, length-set, length-replicate, replicate-append-replicate, take-append-drop, drop_of_length-le}
-use lib.Seq.{drop-cons, set_at, append_snoc, drop-length, take_at, length-take-le}
+use lib.ListN.{length, set, take, drop, replicate, length-append, length-take, length-drop, length-set, length-replicate, drop_of_length-le}
+use borrow.Rule.Slice.PartMut.{put_mid, post_of}
+use Rattle.std.proofs.lemmas.List.{drop-drop}
+use lib.Seq.{drop-cons, set_at, append_snoc, take_at}
 use Rattle.columns.specs.Lists.{◌!◌, tab, places}
 use Rattle.columns.specs.Columns.{zeros, over, cleared, padded, accepts, leaves, kept, Begins}
 use Rattle.columns.proofs.Lists.{tab_more, places-hit, places_miss}
@@ -51,43 +53,13 @@ module _ (t : ℕ → Bool) (f : List ℕ → List ℕ) {d₀ d : List ℕ} {k :
   pub written_miss : t i ≡ false → Written (f (places t (i + 1))) d₀ d k
   written_miss h = rw (places_miss t i h) w
 
--- Zeros from a place on, up to i so far.
-pub record Clearing (d₀ : List ℕ) (from : ℕ) (d : List ℕ) (i : ℕ) : Type 0 where
-  pub low : from ≤ i
-  pub high : i - from ≤ length d₀ - from
-  pub holds : d ≡ (take from d₀ ++ zeros (i - from)) ++ drop i d₀
-  pub same : length d ≡ length d₀
-
-pub clearing_none : (d : List ℕ) (from : ℕ) → Clearing d from d from
-clearing_none d from = record {
-  low = omega arith;
-  high = omega arith;
-  holds = sym (rw (sub_self from, append-nil (take from d)) (take-append-drop from d));
-  same = refl;
-}
-
-clear_push : (d₀ : List ℕ) (from i : ℕ) → from ≤ i → i < length d₀
-    → set ((take from d₀ ++ zeros (i - from)) ++ drop i d₀) i 0 ≡ (take from d₀ ++ zeros (i + 1 - from)) ++ drop (i + 1) d₀
-clear_push d₀ from i f l =
-    let front : length (take from d₀ ++ zeros (i - from)) ≡ i = simp (length-append, length-replicate, length-take-le from d₀ (omega arith)) (omega arith) in
-    let next : i + 1 - from ≡ i - from + 1 = omega arith in
-    let more : zeros (i + 1 - from) ≡ zeros (i - from) ++ (0 ∷ []) = ap zeros next ∙ sym (replicate-append-replicate (i - from) 1 0) in
-    rw (drop-cons d₀ i 0 l, set_at (take from d₀ ++ zeros (i - from)) _ _ 0 i front, more, ← append_assoc, append_snoc, add-one)
-
-pub clearing_more : {d₀ : List ℕ} {from : ℕ} {d : List ℕ} {i : ℕ} → Clearing d₀ from d i → i < length d → Clearing d₀ from (set d i 0) (i + 1)
-clearing_more {d₀} {from} {d} {i} w l = record {
-  low = omega (arith, w.low);
-  high = omega (arith, w.low, w.same);
-  holds = ap (λ (z : List ℕ). set z i 0) w.holds ∙ clear_push d₀ from i w.low (omega (arith, w.same));
-  same = length-set d i 0 ∙ w.same;
-}
-
-pub clearing_all : {d₀ : List ℕ} {from : ℕ} {d : List ℕ} {i : ℕ} → Clearing d₀ from d i → length d ≤ i → d ≡ cleared from d₀
-unfolding cleared
-clearing_all {d₀} {from} {d} {i} w l =
-    let e : i - from ≡ length d₀ - from = omega (arith, w.low, w.high, w.same) in
-    let end : length d₀ ≤ i = omega (arith, w.same) in
-    w.holds ∙ rw (drop_of_length-le d₀ end, e, append-nil)
+-- a column whose part from a place on was filled with v
+pub filled_from : {A : Type 0} (from : ℕ) (d : List A) (v : A) {ys : List A} → ys ≡ replicate (length (take (length d - from) (drop from d))) v
+    → put_mid from (length d - from) d ys ≡ take from d ++ replicate (length d - from) v
+filled_from {A} from d v e =
+    let n : length (take (length d - from) (drop from d)) ≡ length d - from = omega (arith, length-take (length d - from) (drop from d), length-drop from d) in
+    let z : post_of from (length d - from) d ≡ [] = drop-drop (length d - from) from d ∙ drop_of_length-le d (omega arith) in
+    rw (e, n, z, append-nil)
 
 -- cleared whole, and behind what was written
 pub cleared_all : (d : List ℕ) → cleared 0 d ≡ zeros (length d)

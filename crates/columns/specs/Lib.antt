@@ -2,3 +2,4 @@ pub mod Lists
 pub mod Columns
 pub mod Ranks
 pub mod Loans
+pub mod Numbers

@@ -14,7 +14,7 @@ Climbs xs = (i : ℕ) → suc i < length xs → xs ! i ≤ xs ! suc i
 unfoldable pub rank : List ℕ → ℕ → ℕ
 rank xs x = sum (λ a. one (ltb a x)) xs
 
--- What `rank_u32` and `rank_u64` answer: a place of the column or its end, and on a column that rises the rank.
+-- What `rank` answers: a place of the column or its end, and on a column that rises the rank.
 pub record Ranked (xs : List ℕ) (x r : ℕ) : Type 0 where
   pub within : r ≤ length xs
   pub ranked : Rises xs → r ≡ rank xs x

@@ -1,57 +1,151 @@
 // Columns of plain numbers: zeros from a place on, and the place of a number in a column that rises.
 #![tactic(auto)]
 
-ghost use Rattle.std.specs.Prelude.{◌≡◌, ◌+◌, ◌≤◌, ◌<◌, ◌-◌, ◌/◌, length};
+ghost use Rattle.std.specs.Prelude.{◌≡◌, ℕ, ◌+◌, ◌≤◌, ◌<◌, ◌-◌, ◌/◌, List, ◌++◌, length, map, take, replicate, refl};
+ghost use Rattle.std.specs.Ordering.{nat_cmp};
 ghost use Rattle.columns.specs.Columns.{cleared};
 ghost use Rattle.columns.specs.Ranks.{Ranked, front, halve, bisect};
+ghost use Rattle.columns.specs.Numbers.{mapped, clears};
 
-pub fn zero_u8(d: &mut [u8], from: usize)
-    ensures { d.new ≡ cleared from d.old }
-{
-    let mut i = from;
-    while i < d.len() {
-        d[i] = 0;
-        i += 1;
+// An unsigned number of any width that a column holds.
+pub trait Number: Copy + Ord {
+    // The number that a value is, those of a column, and a column with zeros from a place on.
+    ghost number: { Self → ℕ };
+
+    ghost numbers: { List Self → List ℕ };
+
+    ghost nothing: { Self };
+
+    ghost cleared: { ℕ → List Self → List Self };
+
+    fn zero() -> Self
+        ensures { result ≡ nothing };
+
+    fn wide(self) -> u64
+        ensures { result ≡ number self };
+
+    ghost copies: { (x : Self) → Self.is_infallible x × ((y : Self) → Self.is_clone x y → y ≡ x) };
+
+    ghost mapped: { (xs : List Self) → numbers xs ≡ map number xs };
+
+    ghost orders: { (x y : Self) → Self.cmp x y ≡ nat_cmp (number x) (number y) };
+
+    ghost clears: { (from : ℕ) (xs : List Self) → cleared from xs ≡ take from xs ++ replicate (length xs - from) nothing };
+}
+
+impl Number for u8 {
+    ghost number = { λ x. x };
+
+    ghost numbers = { λ xs. xs };
+
+    ghost nothing = { 0 };
+
+    ghost cleared = { cleared };
+
+    ghost copies = { λ x. (tt, λ y e. e) };
+
+    ghost mapped = { mapped };
+
+    ghost orders = { λ x y. refl };
+
+    ghost clears = { clears };
+
+    fn zero() -> u8 {
+        0
+    }
+
+    fn wide(self) -> u64 {
+        self as u64
     }
 }
 
-pub fn zero_u16(d: &mut [u16], from: usize)
-    ensures { d.new ≡ cleared from d.old }
-{
-    let mut i = from;
-    while i < d.len() {
-        d[i] = 0;
-        i += 1;
+impl Number for u16 {
+    ghost number = { λ x. x };
+
+    ghost numbers = { λ xs. xs };
+
+    ghost nothing = { 0 };
+
+    ghost cleared = { cleared };
+
+    ghost copies = { λ x. (tt, λ y e. e) };
+
+    ghost mapped = { mapped };
+
+    ghost orders = { λ x y. refl };
+
+    ghost clears = { clears };
+
+    fn zero() -> u16 {
+        0
+    }
+
+    fn wide(self) -> u64 {
+        self as u64
     }
 }
 
-pub fn zero_u32(d: &mut [u32], from: usize)
-    ensures { d.new ≡ cleared from d.old }
-{
-    let mut i = from;
-    while i < d.len() {
-        d[i] = 0;
-        i += 1;
+impl Number for u32 {
+    ghost number = { λ x. x };
+
+    ghost numbers = { λ xs. xs };
+
+    ghost nothing = { 0 };
+
+    ghost cleared = { cleared };
+
+    ghost copies = { λ x. (tt, λ y e. e) };
+
+    ghost mapped = { mapped };
+
+    ghost orders = { λ x y. refl };
+
+    ghost clears = { clears };
+
+    fn zero() -> u32 {
+        0
+    }
+
+    fn wide(self) -> u64 {
+        self as u64
     }
 }
 
-pub fn zero_u64(d: &mut [u64], from: usize)
-    ensures { d.new ≡ cleared from d.old }
-{
-    let mut i = from;
-    while i < d.len() {
-        d[i] = 0;
-        i += 1;
+impl Number for u64 {
+    ghost number = { λ x. x };
+
+    ghost numbers = { λ xs. xs };
+
+    ghost nothing = { 0 };
+
+    ghost cleared = { cleared };
+
+    ghost copies = { λ x. (tt, λ y e. e) };
+
+    ghost mapped = { mapped };
+
+    ghost orders = { λ x y. refl };
+
+    ghost clears = { clears };
+
+    fn zero() -> u64 {
+        0
+    }
+
+    fn wide(self) -> u64 {
+        self
     }
 }
 
-// A number of 32 bits as one of 64, and one as a place: a call of these spares the caller the fact that it fits.
-pub fn wide(x: u32) -> u64
-    ensures { result ≡ x }
+pub fn zero<T: Number>(d: &mut [T], from: usize)
+    ensures { d.new ≡ T.cleared from d.old }
 {
-    x as u64
+    if from < d.len() {
+        d[from..].fill(T::zero());
+    }
 }
 
+// A number of 32 bits as a place. Not `usize::try_from`, whose error no caller could meet; `as` would do, but the callers' proofs go by this call.
 pub fn index(x: u32) -> usize
     ensures { result ≡ x }
 {
@@ -59,40 +153,35 @@ pub fn index(x: u32) -> usize
 }
 
 // One halving of the n numbers from lo on: where the half that is left starts. Both ways on are numbers at hand, so the processor need not guess.
-fn front_u32(xs: &[u32], x: u64, lo: usize, n: usize) -> usize
-    requires { lo + n / 2 < length xs.now }
-    ensures { result ≡ front xs.now x lo n }
+fn front<T: Number>(xs: &[T], x: u64, lo: usize, n: usize) -> usize
+    requires { lo + n / 2 < length (T.numbers xs.now) }
+    ensures { result ≡ front (T.numbers xs.now) x lo n }
 {
     let middle = lo + n / 2;
-    if wide(xs[middle]) < x { middle } else { lo }
+    if xs[middle].wide() < x { middle } else { lo }
 }
 
-fn front_u64(xs: &[u64], x: u64, lo: usize, n: usize) -> usize
-    requires { lo + n / 2 < length xs.now }
-    ensures { result ≡ front xs.now x lo n }
+// Four halvings; one number is not halved.
+fn four<T: Number>(xs: &[T], x: u64, lo: usize, n: usize) -> usize
+    requires { (0 < n) × (lo + n ≤ length (T.numbers xs.now)) }
+    ensures { result ≡ halve 4 (T.numbers xs.now) x lo n }
 {
-    let middle = lo + n / 2;
-    if xs[middle] < x { middle } else { lo }
-}
-
-// Four halvings.
-fn four_u32(xs: &[u32], x: u64, lo: usize, n: usize) -> usize
-    requires { (0 < n) × (lo + n ≤ length xs.now) }
-    ensures { result ≡ halve 4 xs.now x lo n }
-{
+    if n == 1 {
+        return lo;
+    }
     let half = n - n / 2;
     let quarter = half - half / 2;
     let eighth = quarter - quarter / 2;
-    let a = front_u32(xs, x, lo, n);
-    let b = front_u32(xs, x, a, half);
-    let c = front_u32(xs, x, b, quarter);
-    front_u32(xs, x, c, eighth)
+    let a = front(xs, x, lo, n);
+    let b = front(xs, x, a, half);
+    let c = front(xs, x, b, quarter);
+    front(xs, x, c, eighth)
 }
 
 // Where bisection ends, on any column: what a reader of columns that may hold anything goes by. In a loop a compiler turns a choice of numbers into
 // branches, of which half are guessed wrong. So the last twelve halvings, and there are seldom more, stand in a row.
-pub fn bisect_u32(xs: &[u32], x: u64) -> usize
-    ensures { result ≡ bisect xs.now x }
+pub fn bisect<T: Number>(xs: &[T], x: u64) -> usize
+    ensures { result ≡ bisect (T.numbers xs.now) x }
 {
     let mut lo = 0;
     let mut n = xs.len();
@@ -100,41 +189,20 @@ pub fn bisect_u32(xs: &[u32], x: u64) -> usize
         return 0;
     }
     while 4096 < n {
-        lo = front_u32(xs, x, lo, n);
+        lo = front(xs, x, lo, n);
         n -= n / 2;
     }
     let few = (n + 15) / 16;
     let last = (few + 15) / 16;
-    let a = four_u32(xs, x, lo, n);
-    let b = four_u32(xs, x, a, few);
-    let p = four_u32(xs, x, b, last);
-    if wide(xs[p]) < x { p + 1 } else { p }
-}
-
-pub fn bisect_u64(xs: &[u64], x: u64) -> usize
-    ensures { result ≡ bisect xs.now x }
-{
-    let mut lo = 0;
-    let mut n = xs.len();
-    if n == 0 {
-        return 0;
-    }
-    while 1 < n {
-        lo = front_u64(xs, x, lo, n);
-        n -= n / 2;
-    }
-    if xs[lo] < x { lo + 1 } else { lo }
+    let a = four(xs, x, lo, n);
+    let b = four(xs, x, a, few);
+    let p = four(xs, x, b, last);
+    if xs[p].wide() < x { p + 1 } else { p }
 }
 
 // How many numbers of a column that rises are below x. Of another column nothing is said but that the place is inside, so the way there is free.
-pub fn rank_u32(xs: &[u32], x: u64) -> usize
-    ensures { Ranked xs.now x result }
+pub fn rank<T: Number>(xs: &[T], x: u64) -> usize
+    ensures { Ranked (T.numbers xs.now) x result }
 {
-    bisect_u32(xs, x)
-}
-
-pub fn rank_u64(xs: &[u64], x: u64) -> usize
-    ensures { Ranked xs.now x result }
-{
-    bisect_u64(xs, x)
+    bisect(xs, x)
 }

@@ -28,13 +28,16 @@ big_none bytes at =
     let z : at + 0 - at ≡ 0 = omega arith in
     rw z
 
+pub big_next : (xs : List ℕ) (k : ℕ) {high : ℕ} → k < length xs → high ≡ big_endian 0 (take k xs) → high * 256 + xs ! k ≡ big_endian 0 (take (k + 1) xs)
+big_next xs k h e = rw (e, add-one k, take-suc xs k 0 h) (sym (big_push 0 (take k xs) (xs ! k)))
+
 pub big_more : (bytes : List ℕ) (at k : ℕ) {high : ℕ} → at + k < length bytes → high ≡ big_endian 0 (part bytes at (at + k))
     → high * 256 + bytes ! (at + k) ≡ big_endian 0 (part bytes at (at + (k + 1)))
 big_more bytes at k h e =
     let a : at + k - at ≡ k = omega arith in
-    let b : at + (k + 1) - at ≡ suc k = omega arith in
+    let b : at + (k + 1) - at ≡ k + 1 = omega arith in
     let l : k < length (drop at bytes) = simp length-drop (omega arith) in
-    rw (e, a, b, take-suc (drop at bytes) k 0 l, get_or-drop at bytes k 0) (sym (big_push 0 (take k (drop at bytes)) (bytes ! (at + k))))
+    rw (← get_or-drop at bytes k 0, b) (big_next (drop at bytes) k l (rw a at e))
 
 -- up to eight bytes do not pass 64 bits
 pow_more : (k d : ℕ) → 256 ^ k ≤ 256 ^ (k + d)
@@ -55,7 +58,7 @@ pub element-ends : (k n size : ℕ) → k < n → k * size + size ≤ n * size
 element-ends k n size h = omega (arith, suc-mul k size, mul-le-mul_right size h)
 
 -- How many pass before one fails.
-leading-next : (t : ℕ → Bool) (k : ℕ) → leading t k ≡ k → t k ≡ true → leading t (k + 1) ≡ k + 1
+pub leading-next : (t : ℕ → Bool) (k : ℕ) → leading t k ≡ k → t k ≡ true → leading t (k + 1) ≡ k + 1
 leading-next t k e h = rw (add-one k, e, h, eq-eqb k k refl)
 
 picked_within : (b : Bool) {a n : ℕ} → a ≤ n → cond b (suc n) a ≤ suc n
@@ -76,10 +79,22 @@ stopped : (k d : ℕ) (b : Bool) → (d ≡ 0 → b ≡ false) → cond (eqb k (
 stopped k zero b f = rw (f refl, add-zero k, eq-eqb k k refl)
 stopped k (suc d) b f = rw (ne_eqb k (k + suc d) (λ z. omega arith))
 
-leading_stop : (t : ℕ → Bool) (k d : ℕ) → leading t k ≡ k → t k ≡ false → leading t (k + d) ≡ k
-leading_stop t k zero e f = rw (add-zero k) e
-leading_stop t k (suc d) e f =
-    rw (add-suc k d, leading_stop t k d e f) (stopped k d (t (k + d)) (λ z. ap t (ap (λ (n : ℕ). k + n) z ∙ add-zero k) ∙ f))
+stopped_at : (t : ℕ → Bool) (k d : ℕ) → leading t k ≡ k → t k ≡ false → leading t (k + d) ≡ k
+stopped_at t k zero e f = rw (add-zero k) e
+stopped_at t k (suc d) e f =
+    rw (add-suc k d, stopped_at t k d e f) (stopped k d (t (k + d)) (λ z. ap t (ap (λ (n : ℕ). k + n) z ∙ add-zero k) ∙ f))
+
+pub leading_past : (t : ℕ → Bool) (k : ℕ) → leading t k ≡ k → t k ≡ true → (n : ℕ) → k < n → k < leading t n
+leading_past t k e h n l =
+    let d : k + 1 + (n - (k + 1)) ≡ n = omega arith in
+    omega (arith, leading-next t k e h, subst (λ (m : ℕ). leading t (k + 1) ≤ leading t m) d (leading_more t (k + 1) (n - (k + 1))))
+
+pub leading_stop : (t : ℕ → Bool) (k : ℕ) → leading t k ≡ k → t k ≡ false → (n : ℕ) → k ≤ n → leading t n ≡ k
+leading_stop t k e f n l = let d : n ≡ k + (n - k) = omega arith in rw d (stopped_at t k (n - k) e f)
+
+pub leading_all : (t : ℕ → Bool) → ((i : ℕ) → t i ≡ true) → (n : ℕ) → leading t n ≡ n
+leading_all t h zero = refl
+leading_all t h (suc n) = rw add-one at (leading-next t n (leading_all t h n) (h n))
 
 -- The same of slots.
 module _ (offsets : List ℕ) (size body first k : ℕ) where
@@ -93,16 +108,12 @@ module _ (offsets : List ℕ) (size body first k : ℕ) where
     read_next h = leading-next (slot_ends offsets size body first) k e (le-leb _ _ h)
 
     pub read_more : offsets ! (first + k) + size ≤ body → (n : ℕ) → k < n → k < slots_read offsets size body first n
-    unfolding slots_read
-    read_more h n l =
-        let d : k + 1 + (n - (k + 1)) ≡ n = omega arith in
-        omega (arith, read_next h, subst (λ (m : ℕ). leading (slot_ends offsets size body first) (k + 1) ≤ leading (slot_ends offsets size body first) m) d (leading_more (slot_ends offsets size body first) (k + 1) (n - (k + 1))))
+    unfolding slots_read slot_ends
+    read_more h n l = leading_past (slot_ends offsets size body first) k e (le-leb _ _ h) n l
 
     pub read_stop : body < offsets ! (first + k) + size → (n : ℕ) → k ≤ n → slots_read offsets size body first n ≡ k
     unfolding slots_read slot_ends
-    read_stop h n l =
-        let d : n ≡ k + (n - k) = omega arith in
-        rw d (leading_stop (slot_ends offsets size body first) k (n - k) e (lt-leb _ _ h))
+    read_stop h n l = leading_stop (slot_ends offsets size body first) k e (lt-leb _ _ h) n l
 
 -- The references as the functions read them.
 pub raw-slot : (bytes : List ℕ) (size start : ℕ) (offsets labels weak : List ℕ) (keeps : Bool) (first k : ℕ) {spot id : ℕ} → spot ≡ offsets ! (first + k)

@@ -12,8 +12,7 @@ use lib.Seq.{sets}
 use Rattle.columns.specs.Lists.{find}
 use Rattle.columns.specs.Ranks.{Rises, rank}
 use Rattle.lookup.specs.Lookup.{Sought, Stands, lookup_of, placed}
-use Rattle.lookup.specs.declared.Found.{Found}
-use Rattle.lookup.specs.declared.Found.TheVariants.{At, Missing}
+use Rattle.std.specs.Prelude.{Result, Ok, Err}
 use Rattle.rules.specs.Edges.{Ref, Outcome, edge, weak, missing, nothing, absent, outcome, edge_of, weak_of, missing_of}
 use Rattle.edge_append.specs.Append.{kind_of, ref_of, edges_among, weak_among, missing_among, edge_target, edge_label, with_edge, with_weak, with_missing, EdgeRoom, Appended}
 use Rattle.edge_append.specs.declared.Pass.{Pass}
@@ -22,23 +21,17 @@ pub record Becomes (ids : List ℕ) (r : Ref) (u : Outcome) : Type 0 where
   pub told : outcome ids r ≡ u
 
 -- What the lookup answers, as the rules have it.
-abbrev answered : Found → Option ℕ
-answered (At i) = some i
-answered (Missing p) = none
+abbrev answered : Result ℕ ℕ → Option ℕ
+answered (Ok i) = some i
+answered (Err p) = none
 
 answered-placed : (f : Option ℕ) (p : ℕ) → answered (placed f p) ≡ f
 answered-placed (some i) p = refl
 answered-placed none p = refl
 
-found_as : (ids : List ℕ) (id : ℕ) {v : Found} → v ≡ lookup_of ids id → find ids id ≡ answered v
+found_as : (ids : List ℕ) (id : ℕ) {v : Result ℕ ℕ} → v ≡ lookup_of ids id → find ids id ≡ answered v
 unfolding lookup_of
 found_as ids id e = sym (answered-placed (find ids id) (rank ids id)) ∙ sym (ap answered e)
-
-pub as_sought : {ids : List ℕ} {id : ℕ} {r : Found} → Sought ids id r → {v : Found} → r ≡ v → Rises ids → v ≡ lookup_of ids id
-as_sought h e rise = sym e ∙ h.sought rise
-
-pub found_below : {ids : List ℕ} {id : ℕ} {r : Found} → Sought ids id r → {t : ℕ} → r ≡ At t → t < length ids
-found_below {ids} {id} h e = (subst (Stands ids id) e h.stands).0
 
 module _ (ids : List ℕ) (kind label : ℕ) (kept : Bool) (id : ℕ) where
   pub zero-nothing : id ≡ 0 → Becomes ids (ref_of kind label kept id) nothing
@@ -46,15 +39,15 @@ module _ (ids : List ℕ) (kind label : ℕ) (kept : Bool) (id : ℕ) where
   zero-nothing e = record { told = rw (eq-eqb id 0 e) }
 
   module _ (h : id ≡ 0 → ⊥) where
-    pub kept-edge : {t : ℕ} → At t ≡ lookup_of ids id → kept ≡ true → Becomes ids (ref_of kind label kept id) (edge t)
+    pub kept-edge : {t : ℕ} → Ok t ≡ lookup_of ids id → kept ≡ true → Becomes ids (ref_of kind label kept id) (edge t)
     unfolding outcome
     kept-edge f k = record { told = rw (ne_eqb id 0 h, found_as ids id f, k) }
 
-    pub other_weak : {t : ℕ} → At t ≡ lookup_of ids id → kept ≡ false → Becomes ids (ref_of kind label kept id) (weak t)
+    pub other_weak : {t : ℕ} → Ok t ≡ lookup_of ids id → kept ≡ false → Becomes ids (ref_of kind label kept id) (weak t)
     unfolding outcome
     other_weak f k = record { told = rw (ne_eqb id 0 h, found_as ids id f, k) }
 
-    pub lost-missing : {p : ℕ} → Missing p ≡ lookup_of ids id → kind < 3 → Becomes ids (ref_of kind label kept id) missing
+    pub lost-missing : {p : ℕ} → Err p ≡ lookup_of ids id → kind < 3 → Becomes ids (ref_of kind label kept id) missing
     unfolding outcome
     lost-missing f k = record { told = rw (ne_eqb id 0 h, found_as ids id f) (counted kind k) }
       where
@@ -64,7 +57,7 @@ module _ (ids : List ℕ) (kind label : ℕ) (kept : Bool) (id : ℕ) where
         counted (suc (suc zero)) h = refl
         counted (suc (suc (suc k))) h = absurd (omega arith)
 
-    pub loader_nothing : {p : ℕ} → Missing p ≡ lookup_of ids id → 3 ≤ kind → Becomes ids (ref_of kind label kept id) nothing
+    pub loader_nothing : {p : ℕ} → Err p ≡ lookup_of ids id → 3 ≤ kind → Becomes ids (ref_of kind label kept id) nothing
     unfolding outcome
     loader_nothing f k = record { told = rw (ne_eqb id 0 h, found_as ids id f) (passed kind k) }
       where

@@ -1,19 +1,28 @@
 // One reference appended: its id is looked up once, and what becomes of it is written where it finally stands, so that no hole is ever made.
 ghost use Rattle.std.specs.Prelude.{◌≡◌, [], ◌∷◌, ◌^◌, ◌<◌, length};
-ghost use Rattle.edge_append.specs.Append.{ref_of, EdgeRoom, Appended};
+ghost use Rattle.edge_append.specs.Append.{source_row, dangles, ref_of, EdgeRoom, Appended};
 ghost use Rattle.edge_append.specs.Held.{slot_with, element_with};
 
 use super::Pass;
 use edge_weak::is_kept;
 
-// The four kinds of references, as the rows of the account.
-pub const SLOT: usize = 0;
+// The four kinds of references, in the order of the account's rows.
+#[derive(Clone, Copy, PartialEq, Eq)]
+pub enum Source {
+    Slot,
+    Element,
+    Static,
+    Loader,
+}
 
-pub const ELEMENT: usize = 1;
-
-pub const STATIC: usize = 2;
-
-pub const LOADER: usize = 3;
+impl Source {
+    // Whether a missing id of this kind is dangling: "a missing loader is not."
+    fn dangles(self) -> bool
+        ensures { result ≡ dangles self }
+    {
+        self != Source::Loader
+    }
+}
 
 pub fn narrow(x: usize) -> u32
     requires { x < 2 ^ 32 }
@@ -22,11 +31,10 @@ pub fn narrow(x: usize) -> u32
     x as u32
 }
 
-// "Id 0 gives nothing. Found and kept: an edge with the slot's label. Found, not kept: a weak pair. Not found: dangling, kept or not." But "a missing
-// loader is not". The hints say where the search starts, and nothing else.
+// "Id 0 gives nothing. Found and kept: an edge with the slot's label. Found, not kept: a weak pair. Not found: dangling, kept or not." The hints say where the search starts, and nothing else.
 pub fn append(
     s: Pass,
-    kind: usize,
+    kind: Source,
     label: u32,
     kept: bool,
     id: u64,
@@ -37,14 +45,14 @@ pub fn append(
     labels: &mut [u32],
     weak_to: &mut [u32],
 ) -> Pass
-    requires { EdgeRoom ids.now (ref_of kind label kept id ∷ []) s (length targets.old) (length labels.old) (length weak_to.old) }
-    ensures { Appended ids.now (ref_of kind label kept id ∷ []) s result targets.old labels.old weak_to.old targets.new labels.new weak_to.new }
+    requires { EdgeRoom ids.now (ref_of (source_row kind) label kept id ∷ []) s (length targets.old) (length labels.old) (length weak_to.old) }
+    ensures { Appended ids.now (ref_of (source_row kind) label kept id ∷ []) s result targets.old labels.old weak_to.old targets.new labels.new weak_to.new }
 {
     if id == 0 {
         return s;
     }
     match lookup_hints::find_hinted(ids, id, short, scale) {
-        lookup::Found::At(t) => {
+        Ok(t) => {
             if kept {
                 let at = s.edges;
                 targets[at] = narrow(t);
@@ -55,8 +63,8 @@ pub fn append(
             weak_to[at] = narrow(t);
             s.absorb_weak()
         }
-        lookup::Found::Missing(_) => {
-            if kind < LOADER {
+        Err(_) => {
+            if kind.dangles() {
                 return s.absorb_missing();
             }
             s
@@ -87,7 +95,7 @@ pub fn append_slot(
     let kept = is_kept(slot_weak[place], keeps);
     append(
         s,
-        SLOT,
+        Source::Slot,
         slot_labels[place],
         kept,
         id,
@@ -118,6 +126,16 @@ pub fn append_element(
 {
     let label = rules::Label::element(narrow(k));
     append(
-        s, ELEMENT, label.0, true, id, ids, short, scale, targets, labels, weak_to,
+        s,
+        Source::Element,
+        label.0,
+        true,
+        id,
+        ids,
+        short,
+        scale,
+        targets,
+        labels,
+        weak_to,
     )
 }

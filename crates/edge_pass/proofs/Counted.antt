@@ -8,7 +8,7 @@ use lib.ListN.{length}
 use Rattle.columns.specs.Lists.{◌!◌, collect, sum}
 use Rattle.columns.proofs.Sums.{sum-append, sum-collect, sum_ext, total_ext, length-flat}
 use Rattle.rules.specs.Input.{Input, object_count}
-use Rattle.rules.specs.Edges.{Kind, slot, element, static, loader, Ref, Outcome, weak, missing, outcome, missing_of, ref_edge, ref_weak, refs}
+use Rattle.rules.specs.Edges.{Kind, slot, element, static, loader, Ref, Outcome, outcome, missing_of, ref_edge, ref_weak, refs}
 use Rattle.rules.specs.Account.{of_kind, is_edge, is_weak, cell, account_row, account, no_account}
 use Rattle.rules.proofs.Account.{same-edge}
 use Rattle.edge_append.specs.Append.{edges_among, weak_among, missing_among}

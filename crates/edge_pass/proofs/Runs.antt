@@ -1,15 +1,15 @@
 -- Pairs sorted by object, then target, are the objects' runs in order, each sorted by target. Assumes nothing.
 use Prim.Native.Nat.{ℕ, zero, suc, ◌<◌}
 use native.Mathlib.Omega.{arith}
-use mathlib.Core.Path.{◌≡◌, refl, sym, ap, ap₂, ◌∙◌}
+use mathlib.Core.Path.{◌≡◌, refl, ap, ap₂, ◌∙◌}
 use mathlib.Core.Bool.{Bool, true, false, cond, ◌||◌, ◌&&◌}
 use mathlib.Core.List.{List, [], ◌∷◌, ◌++◌, map}
-use lib.Dec.{eqb, leb, ltb}
+use lib.Dec.{eqb, leb}
 use lib.ListN.{length, replicate}
 use borrow.Author.Tests.{eq-eqb, lt-ltb, le-ltb}
 use Rattle.columns.specs.Lists.{collect, insert, sort}
 use Rattle.columns.proofs.Sums.{map-collect, collect_ext}
-use Rattle.columns.proofs.Every.{Every, every-collect, every_map, every-sort}
+use Rattle.columns.proofs.Every.{Every, every-collect}
 use Rattle.rules.specs.Edges.{Pair, pair_le}
 
 -- What is not above anything behind it is inserted before that.

@@ -4,6 +4,7 @@ use native.Mathlib.Omega.{arith}
 use mathlib.Core.Path.{◌≡◌, refl, sym, ap, subst, ◌∙◌}
 use mathlib.Core.Bool.{true, false, false≢true}
 use mathlib.Core.List.{List, [], ◌∷◌, ◌++◌, map}
+use Rattle.std.specs.Prelude.{Result, Ok, Err}
 use lib.ListN.{length, length-map}
 use lib.Seq.{sets}
 use borrow.Author.Tests.{leb-false, lt-ltb}
@@ -13,14 +14,15 @@ use Rattle.columns.specs.Ranks.{Rises}
 use Rattle.columns.proofs.Lists.{tab-length}
 use Rattle.columns.proofs.Tests.{append-empty, places_none, second_fails}
 use Rattle.columns.proofs.Ranks.{steps_rise}
-use Rattle.rules.specs.declared.Built.{Built}
-use Rattle.rules.specs.declared.Built.TheVariants as Built
+use Rattle.rules.specs.declared.Counts.{Counts}
+use Rattle.rules.specs.declared.Refusal.{Refusal}
 use Rattle.rules.specs.Types.{built_says}
 use Rattle.rules.specs.Input.{Input, Copied, Route, Route.copied, Route.raw, object_count}
 use Rattle.rules.specs.Edges.{edges, graph}
 use Rattle.rules.specs.Verdict.{falls, bad_code, bad_escape, bad_copied}
 use Rattle.rules.specs.Needs.{need_weak}
 use Rattle.rules.specs.Account.{account}
+use Rattle.rules.proofs.Types.{refusal_refuses}
 use Rattle.rules.proofs.Acceptance.{Passed, check_passed, objects_few, ids_rise}
 use Rattle.rules.proofs.Passes.{edges_within}
 use Rattle.rules.proofs.Bounds.{missing-below}
@@ -31,7 +33,7 @@ use Rattle.edge_append.specs.declared.Pass.{Pass}
 use Rattle.edge_pass.specs.Walk.{edges_to, weak_to, ends_to, Walked, WalkRoom}
 use Rattle.edge_pass.specs.Range.{ref_parts_of, parts_from, PartIn, ObjectIn}
 use Rattle.edge_pass.specs.Tables.{narrow_to, offsets_for, narrow, Passable}
-use Rattle.edge_pass.specs.Stage.{Handed, with_pass, edges_said, Edged, HandedFrom, EdgedFrom}
+use Rattle.edge_pass.specs.Stage.{Handed, counted, with_pass, edges_said, Edged, HandedFrom, EdgedFrom}
 use Rattle.edge_pass.proofs.Walks.{from-length}
 use Rattle.edge_pass.proofs.Accepted.{CodesFit, object_in}
 use Rattle.edge_pass.proofs.Parted.{Agrees, agrees}
@@ -170,7 +172,7 @@ module _
         pass_is q (omega (arith, w.next, edge_number x d)) (omega (arith, w.next_weak, weak_number x d)) (omega (arith, w.lost, all_missing x (parts x d) (agree x d)))
 
     -- Where the answer so far accepts, the pass over all objects leaves what the stage is to leave.
-    edged : {v r : Built} → r ≡ with_pass v q → Edged x v r ts ls fs ws wk ts' ls' fs' ws' wk' a'
+    edged : {v r : Result Counts Refusal} → r ≡ with_pass v q → Edged x v r ts ls fs ws wk ts' ls' fs' ws' wk' a'
     unfolding edges_said
     edged {v} f = record {
       answer = f ∙ ap (with_pass v) pass-left;
@@ -183,12 +185,12 @@ module _
     }
 
 -- Where it refuses, the refusal stands.
-refusal_stands : (x : Input) (v : Built) → accepts (built_says v) ≡ false → v ≡ edges_said x v
+refusal_stands : (x : Input) (v : Result Counts Refusal) → accepts (built_says v) ≡ false → v ≡ edges_said x v
 unfolding edges_said accepts
-refusal_stands x (Built.Done c) e = absurd (false≢true (sym e))
-refusal_stands x (Built.Refused e') e = refl
+refusal_stands x (Ok c) e = absurd (false≢true (sym e))
+refusal_stands x (Err e') e = refl
 
-edged_not : (x : Input) {v : Built} {ts ls fs ws wk : List ℕ} {a : List (List ℕ)} → accepts (built_says v) ≡ false → Edged x v v ts ls fs ws wk ts ls fs ws wk a
+edged_not : (x : Input) {v : Result Counts Refusal} {ts ls fs ws wk : List ℕ} {a : List (List ℕ)} → accepts (built_says v) ≡ false → Edged x v v ts ls fs ws wk ts ls fs ws wk a
 edged_not x {v} e = record {
   answer = refusal_stands x v e;
   targets = λ t. absurd (false≢true (sym e ∙ t));
@@ -215,12 +217,17 @@ module _ {p : Input} {nt nl nf nw : ℕ} {wk : List ℕ} {a : List (List ℕ)} (
   pub from-account : (s : Pass) → AccountIn a s
   from-account s = handed-account h.whole h.handed s
 
-pub edged_from : (p : Input) {v r : Built} {ts ls fs ws wk : List ℕ} {a : List (List ℕ)} {s q : Pass} {ts' ls' fs' ws' wk' : List ℕ} {a' : List (List ℕ)} → accepts (built_says v) ≡ true → s ≡ begun
-    → Walked p.objects.ids (parts_from p wk 0) 0 (length p.objects.ids) s q ts ls fs ws wk a ts' ls' fs' ws' wk' a' → r ≡ with_pass v q
-    → EdgedFrom p v r ts ls fs ws wk a ts' ls' fs' ws' wk' a'
-edged_from p {v} {r} {ts} {ls} {fs} {ws} {wk} {a} {s} {q} {ts'} {ls'} {fs'} {ws'} {wk'} {a'} ok e w f = λ x n d.
-    edged x (d ok) e
-    (subst (λ (z : Input). Walked z.objects.ids (parts_from z wk 0) 0 (length z.objects.ids) s q ts ls fs ws wk a ts' ls' fs' ws' wk' a') (sym n) w) f
+-- what the answer so far says, by what it is
+pub done_accepts : {v : Result Counts Refusal} {c : Counts} → v ≡ Ok c → accepts (built_says v) ≡ true
+unfolding accepts
+done_accepts e = rw e
 
-pub edged_from_not : (p : Input) {v : Built} {ts ls fs ws wk : List ℕ} {a a' : List (List ℕ)} → accepts (built_says v) ≡ false → EdgedFrom p v v ts ls fs ws wk a ts ls fs ws wk a'
-edged_from_not p ok = λ x n d. edged_not x ok
+pub edged_from : (p : Input) {v : Result Counts Refusal} {c k : Counts} {ts ls fs ws wk : List ℕ} {a : List (List ℕ)} {s q : Pass} {ts' ls' fs' ws' wk' : List ℕ} {a' : List (List ℕ)} → v ≡ Ok c → s ≡ begun
+    → Walked p.objects.ids (parts_from p wk 0) 0 (length p.objects.ids) s q ts ls fs ws wk a ts' ls' fs' ws' wk' a' → k ≡ counted c q
+    → EdgedFrom p v (Ok k) ts ls fs ws wk a ts' ls' fs' ws' wk' a'
+edged_from p {v} {c} {k} {ts} {ls} {fs} {ws} {wk} {a} {s} {q} {ts'} {ls'} {fs'} {ws'} {wk'} {a'} is e w f = λ x n d.
+    edged x (d (done_accepts is)) e
+    (subst (λ (z : Input). Walked z.objects.ids (parts_from z wk 0) 0 (length z.objects.ids) s q ts ls fs ws wk a ts' ls' fs' ws' wk' a') (sym n) w) (rw is (ap Ok f))
+
+pub edged_from_not : (p : Input) {v r : Result Counts Refusal} {e : Refusal} {ts ls fs ws wk : List ℕ} {a a' : List (List ℕ)} → v ≡ Err e → r ≡ Err e → EdgedFrom p v r ts ls fs ws wk a ts ls fs ws wk a'
+edged_from_not p {v} {r} {e} is same = λ x n d. rw (is, same) (edged_not x {v = Err e} (refusal_refuses e))

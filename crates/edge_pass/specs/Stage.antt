@@ -1,9 +1,9 @@
 -- The edge stage of a build: what it is handed, and what it leaves where the answer so far accepts. Assumes nothing.
-use Rattle.std.specs.Prelude.{ℕ, ◌+◌, ◌≤◌, ◌<◌, ◌≡◌, Bool, true, List, length}
+use Rattle.std.specs.Prelude.{ℕ, ◌+◌, ◌≤◌, ◌<◌, ◌≡◌, true, List, Result, Ok, Err, length}
 use Rattle.columns.specs.Lists.{◌!◌}
 use Rattle.columns.specs.Columns.{over, accepts}
-use Rattle.rules.specs.declared.Built.{Built}
-use Rattle.rules.specs.declared.Built.TheVariants as Built
+use Rattle.rules.specs.declared.Counts.{Counts}
+use Rattle.rules.specs.declared.Refusal.{Refusal}
 use Rattle.rules.specs.Types.{built_says}
 use Rattle.rules.specs.Input.{Input, object_count, classes_at}
 use Rattle.rules.specs.Edges.{graph}
@@ -28,15 +28,18 @@ pub record Handed (x : Input) (nt nl nf nw : ℕ) (working : List ℕ) (a : List
   pub nothing : a ≡ no_account
 
 -- The answer so far with what the pass came to: a refusal stands.
-abbrev pub with_pass : Built → Pass → Built
-with_pass (Built.Done c) q = Built.Done (record { edges = q.edges; weak = q.weak; roots = c.roots; long = c.long; fields = c.fields; escapes = c.escapes; dangling = q.missing })
-with_pass (Built.Refused e) q = Built.Refused e
+abbrev pub counted : Counts → Pass → Counts
+counted c q = record { edges = q.edges; weak = q.weak; roots = c.roots; long = c.long; fields = c.fields; escapes = c.escapes; dangling = q.missing }
+
+abbrev pub with_pass : Result Counts Refusal → Pass → Result Counts Refusal
+with_pass (Ok c) q = Ok (counted c q)
+with_pass (Err e) q = Err e
 
 -- The same with the edges, the weak pairs and the dangling count of the graph.
-unfoldable pub edges_said : Input → Built → Built
+unfoldable pub edges_said : Input → Result Counts Refusal → Result Counts Refusal
 edges_said x v = with_pass v (record { edges = length (graph x).targets; weak = length (graph x).weak_from; missing = (graph x).dangling })
 
-pub record Edged (x : Input) (v r : Built) (ts ls fs ws wk ts' ls' fs' ws' wk' : List ℕ) (a' : List (List ℕ)) : Type 0 where
+pub record Edged (x : Input) (v r : Result Counts Refusal) (ts ls fs ws wk ts' ls' fs' ws' wk' : List ℕ) (a' : List (List ℕ)) : Type 0 where
   pub answer : r ≡ edges_said x v
   pub targets : accepts (built_says v) ≡ true → ts' ≡ over (graph x).targets ts
   pub labels : accepts (built_says v) ≡ true → ls' ≡ over (graph x).labels ls
@@ -52,7 +55,7 @@ pub record HandedFrom (p : Input) (nt nl nf nw : ℕ) (working : List ℕ) (a : 
   pub handed : Handed whole nt nl nf nw working a
 
 -- What the stage leaves, by each whole input that has them and is handed over where the answer so far accepts.
-abbrev pub EdgedFrom : Input → Built → Built
+abbrev pub EdgedFrom : Input → Result Counts Refusal → Result Counts Refusal
     → List ℕ → List ℕ → List ℕ → List ℕ → List ℕ → List (List ℕ) → List ℕ → List ℕ → List ℕ → List ℕ → List ℕ → List (List ℕ) → Type 0
 EdgedFrom p v r ts ls fs ws wk a ts' ls' fs' ws' wk' a' =
     (x : Input) → narrow x ≡ p → (accepts (built_says v) ≡ true → Handed x (length ts) (length ls) (length fs) (length ws) wk a)

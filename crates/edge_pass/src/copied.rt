@@ -67,9 +67,8 @@ pub fn walk_copied(
 {
     let mut s = from;
     let mut row = 0;
-    let mut k = 0;
-    while k < count {
-        row = lookup::near(escape_places, columns::wide(starts[first + k]), row);
+    for k in 0..count {
+        row = lookup::near(escape_places, u64::from(starts[first + k]), row);
         s = step::step_copied(
             s,
             first + k,
@@ -104,7 +103,6 @@ pub fn walk_copied(
             working,
             account,
         );
-        k += 1;
     }
     s
 }
@@ -113,7 +111,7 @@ pub fn walk_copied(
 // refusal it does nothing. It is lent the columns that a pass reads; the contract
 // speaks of the whole inputs that have them.
 pub fn edges_copied(
-    v: rules::Built,
+    v: Result<rules::Counts, rules::Refusal>,
     ids: &[u64],
     kinds: &[u8],
     classes: &[u32],
@@ -142,7 +140,7 @@ pub fn edges_copied(
     weak_to: &mut [u32],
     working: &mut [u64],
     account: &mut [[u64; 3]; 4],
-) -> rules::Built
+) -> Result<rules::Counts, rules::Refusal>
     requires { let input = pass_input (object_table (λ x. x.now) ids kinds classes lengths)
         (pass_classes (λ x. x.now) loaders class_kinds slot_starts slot_ends static_starts static_ends)
         (pass_slots (λ x. x.now) slot_labels slot_weak) (static_table (λ x. x.now) static_names static_types static_values)
@@ -156,9 +154,7 @@ pub fn edges_copied(
         EdgedFrom input v result targets.old labels.old weak_from.old weak_to.old working.old account.old
         targets.new labels.new weak_from.new weak_to.new working.new account.new }
 {
-    if !rules::accepted(v) {
-        return v;
-    }
+    let c = v?;
     let scale = lookup_hints::scale(ids, short.len());
     let q = walk_copied(
         Pass::begun(),
@@ -194,5 +190,5 @@ pub fn edges_copied(
         working,
         account,
     );
-    answer::with_pass(v, q)
+    Ok(answer::counted(c, q))
 }

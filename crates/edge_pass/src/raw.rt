@@ -64,8 +64,7 @@ pub fn walk_raw(
         targets.new labels.new weak_from.new weak_to.new working.new account.new }
 {
     let mut s = from;
-    let mut k = 0;
-    while k < count {
+    for k in 0..count {
         s = step::step_raw(
             s,
             first + k,
@@ -99,14 +98,13 @@ pub fn walk_raw(
             working,
             account,
         );
-        k += 1;
     }
     s
 }
 
 // The edge stage of a build, as by the copied route.
 pub fn edges_raw(
-    v: rules::Built,
+    v: Result<rules::Counts, rules::Refusal>,
     ids: &[u64],
     kinds: &[u8],
     classes: &[u32],
@@ -135,7 +133,7 @@ pub fn edges_raw(
     weak_to: &mut [u32],
     working: &mut [u64],
     account: &mut [[u64; 3]; 4],
-) -> rules::Built
+) -> Result<rules::Counts, rules::Refusal>
     requires { let input = pass_input (object_table (λ x. x.now) ids kinds classes lengths)
         (pass_classes (λ x. x.now) loaders class_kinds slot_starts slot_ends static_starts static_ends)
         (slot_table (λ x. x.now) slot_offsets slot_labels slot_weak) (static_table (λ x. x.now) static_names static_types static_values)
@@ -149,9 +147,7 @@ pub fn edges_raw(
         EdgedFrom input v result targets.old labels.old weak_from.old weak_to.old working.old account.old
         targets.new labels.new weak_from.new weak_to.new working.new account.new }
 {
-    if !rules::accepted(v) {
-        return v;
-    }
+    let c = v?;
     let scale = lookup_hints::scale(ids, short.len());
     let q = walk_raw(
         Pass::begun(),
@@ -187,5 +183,5 @@ pub fn edges_raw(
         working,
         account,
     );
-    answer::with_pass(v, q)
+    Ok(answer::counted(c, q))
 }

@@ -35,7 +35,7 @@ fn append_static(
     let label = rules::Label::field(static_names[place]);
     append::append(
         s,
-        append::STATIC,
+        append::Source::Static,
         label.0,
         true,
         static_values[place],
@@ -69,8 +69,7 @@ fn statics(
         targets.old labels.old weak_to.old targets.new labels.new weak_to.new }
 {
     let mut s = from;
-    let mut k = 0;
-    while k < count {
+    for k in 0..count {
         s = append_static(
             s,
             first + k,
@@ -84,7 +83,6 @@ fn statics(
             labels,
             weak_to,
         );
-        k += 1;
     }
     s
 }
@@ -154,7 +152,7 @@ pub fn found_loader(
     let label = rules::Label::loader();
     append::append(
         s,
-        append::LOADER,
+        append::Source::Loader,
         label.0,
         true,
         loaders[mark - 1],

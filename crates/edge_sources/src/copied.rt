@@ -7,8 +7,9 @@ ghost use Rattle.rules.specs.Input.{copied_id};
 ghost use Rattle.edge_append.specs.Append.{EdgeRoom, Appended};
 ghost use Rattle.edge_append.specs.Held.{copied_slot, copied_element, SlotsIn, copied_slots, copied_elements};
 
-use super::escape::id_from;
-use edge_append::{Pass, append};
+use super::held;
+use super::held::CopiedIds;
+use edge_append::Pass;
 
 // The id at a place; 0 where nothing reads back, which no accepted input meets.
 pub fn id_held(
@@ -20,100 +21,7 @@ pub fn id_held(
 ) -> u64
     ensures { result ≡ copied_id (ids_of codes.now escape_places.now escape_ids.now base) place }
 {
-    match index::id_at(codes, escape_places, escape_ids, base, place) {
-        index::CopiedId::Id(id) => id,
-        index::CopiedId::Index(_) => 0,
-        index::CopiedId::Copied(_) => 0,
-    }
-}
-
-// The first `count` slots from `first` on, whose ids stand from `start` on; escapes are sought from row `row` on.
-fn slots(
-    from: Pass,
-    start: usize,
-    row: usize,
-    keeps: bool,
-    first: usize,
-    count: usize,
-    ids: &[u64],
-    slot_labels: &[u32],
-    slot_weak: &[u8],
-    codes: &[u32],
-    escape_places: &[u64],
-    escape_ids: &[u64],
-    base: u64,
-    short: &[u16],
-    scale: u32,
-    targets: &mut [u32],
-    labels: &mut [u32],
-    weak_to: &mut [u32],
-) -> Pass
-    requires rises { Rises escape_places.now }
-    requires count_in_bounds { (first + count ≤ length slot_labels.now) × (first + count ≤ length slot_weak.now) × (start + count < 2 ^ 64) }
-    requires edge_room { EdgeRoom ids.now (tab (copied_slot (ids_of codes.now escape_places.now escape_ids.now base) start slot_labels.now slot_weak.now
-        keeps first) count) from (length targets.old) (length labels.old) (length weak_to.old) }
-    ensures { Appended ids.now (tab (copied_slot (ids_of codes.now escape_places.now escape_ids.now base) start slot_labels.now
-        slot_weak.now keeps first) count) from result targets.old labels.old weak_to.old targets.new labels.new weak_to.new }
-{
-    let mut s = from;
-    let mut cursor = row;
-    let mut k = 0;
-    while k < count {
-        let read = id_from(codes, escape_places, escape_ids, base, start + k, cursor);
-        cursor = read.row;
-        s = append::append_slot(
-            s,
-            keeps,
-            first + k,
-            read.id,
-            ids,
-            slot_labels,
-            slot_weak,
-            short,
-            scale,
-            targets,
-            labels,
-            weak_to,
-        );
-        k += 1;
-    }
-    s
-}
-
-// The first `count` elements, whose ids stand from `start` on.
-fn elements(
-    from: Pass,
-    start: usize,
-    row: usize,
-    count: usize,
-    ids: &[u64],
-    codes: &[u32],
-    escape_places: &[u64],
-    escape_ids: &[u64],
-    base: u64,
-    short: &[u16],
-    scale: u32,
-    targets: &mut [u32],
-    labels: &mut [u32],
-    weak_to: &mut [u32],
-) -> Pass
-    requires rises { Rises escape_places.now }
-    requires count_bound { (count ≤ 2 ^ 31) × (start + count < 2 ^ 64) }
-    requires edge_room { EdgeRoom ids.now (tab (copied_element (ids_of codes.now escape_places.now escape_ids.now base) start) count) from (length targets.old)
-        (length labels.old) (length weak_to.old) }
-    ensures { Appended ids.now (tab (copied_element (ids_of codes.now escape_places.now escape_ids.now base) start) count) from result
-        targets.old labels.old weak_to.old targets.new labels.new weak_to.new }
-{
-    let mut s = from;
-    let mut cursor = row;
-    let mut k = 0;
-    while k < count {
-        let read = id_from(codes, escape_places, escape_ids, base, start + k, cursor);
-        cursor = read.row;
-        s = append::append_element(s, k, read.id, ids, short, scale, targets, labels, weak_to);
-        k += 1;
-    }
-    s
+    index::id_at(codes, escape_places, escape_ids, base, place).unwrap_or(0)
 }
 
 // The slots of an object, none unless it is an instance: "class is read for instances only".
@@ -148,26 +56,29 @@ pub fn object_slots(
         slot_starts.now slot_ends.now slot_labels.now slot_weak.now policy kind class) s result targets.old labels.old weak_to.old
         targets.new labels.new weak_to.new }
 {
-    if kind != rules::Kind::INSTANCE {
+    if kind != rules::Kind::Instance as u8 {
         return s;
     }
     let keeps = policy.keeps(class_kinds[class]);
     let first = columns::index(slot_starts[class]);
     let count = columns::index(slot_ends[class]) - first;
-    slots(
-        s,
+    let read = CopiedIds {
+        codes,
+        escape_places,
+        escape_ids,
+        base,
         start,
         row,
+    };
+    held::slots(
+        s,
+        read,
         keeps,
         first,
         count,
         ids,
         slot_labels,
         slot_weak,
-        codes,
-        escape_places,
-        escape_ids,
-        base,
         short,
         scale,
         targets,
@@ -201,23 +112,16 @@ pub fn object_elements(
     ensures { Appended ids.now (copied_elements (ids_of codes.now escape_places.now escape_ids.now base) start kind count) s result
         targets.old labels.old weak_to.old targets.new labels.new weak_to.new }
 {
-    if kind != rules::Kind::OBJECT_ARRAY {
+    if kind != rules::Kind::ObjectArray as u8 {
         return s;
     }
-    elements(
-        s,
-        start,
-        row,
-        count,
-        ids,
+    let read = CopiedIds {
         codes,
         escape_places,
         escape_ids,
         base,
-        short,
-        scale,
-        targets,
-        labels,
-        weak_to,
-    )
+        start,
+        row,
+    };
+    held::elements(s, read, count, ids, short, scale, targets, labels, weak_to)
 }

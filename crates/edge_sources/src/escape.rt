@@ -18,13 +18,7 @@ pub struct Read {
 fn is_escaped(codes: &[u32], place: usize) -> bool
     ensures { result ≡ all_of (ltb place (length codes.now) ∷ eqb (codes.now ! place) 4294967295 ∷ []) }
 {
-    if codes.len() <= place {
-        return false;
-    }
-    if codes[place] == 4294967295 {
-        return true;
-    }
-    false
+    place < codes.len() && codes[place] == index_read::ESCAPED
 }
 
 // What an escape's id reads back as: 0 is no id.

@@ -4,4 +4,5 @@
 pub mod class;
 pub mod copied;
 pub mod escape;
+pub mod held;
 pub mod raw;

@@ -2,10 +2,12 @@
 use Prim.Native.Nat.{ℕ, suc, ◌+◌, ◌-◌, ◌≤◌}
 use native.Mathlib.Nat.{add-zero}
 use native.Mathlib.Omega.{arith}
-use mathlib.Core.Path.{◌≡◌, refl, sym, ap, ◌∙◌}
-use mathlib.Core.List.{List, [], ◌∷◌, ◌++◌}
-use lib.ListN.{length, set, replicate, length-replicate, replicate-append-replicate}
-use lib.Seq.{sets}
+use mathlib.Core.Path.{◌≡◌, refl, ap, ◌∙◌}
+use mathlib.Core.List.{List, [], ◌∷◌, ◌++◌, append_assoc}
+use lib.ListN.{length, set, take, drop, replicate, length-replicate}
+use borrow.Rule.Slice.PartMut.{put_mid}
+use Rattle.std.proofs.lemmas.List.{length-take, length-drop, drop-drop}
+use lib.Seq.{sets, sets-eq}
 
 -- Writing on from where the last writing ended.
 pub sets_append : (l vs us : List ℕ) (i n : ℕ) → n ≡ length vs → sets (sets l i vs) (i + n) us ≡ sets l i (vs ++ us)
@@ -13,18 +15,11 @@ sets_append l [] us i n e = rw (e, add-zero i)
 sets_append l (v ∷ vs) us i n e =
     ap (λ (j : ℕ). sets (sets (set l i v) (suc i) vs) j us) (omega arith) ∙ sets_append (set l i v) vs us (suc i) (length vs) refl
 
--- the number v at the places from one up to i
-pub filled_none : (d : List ℕ) (from v : ℕ) → d ≡ sets d from (replicate (from - from) v)
-filled_none d from v =
-    let z : from - from ≡ 0 = omega arith in
-    rw z
-
-pub filled_more : (d : List ℕ) (from i v : ℕ) {e : List ℕ} → from ≤ i → e ≡ sets d from (replicate (i - from) v) → set e i v ≡ sets d from (replicate (i + 1 - from) v)
-filled_more d from i v h w =
-    let n = i - from in
-    let at : i ≡ from + n = omega arith in
-    let more : i + 1 - from ≡ n + 1 = omega arith in
-    ap (λ (l : List ℕ). set l i v) w
-    ∙ ap (λ (j : ℕ). set (sets d from (replicate n v)) j v) at
-    ∙ sets_append d (replicate n v) (v ∷ []) from n (sym (length-replicate n v))
-    ∙ ap (sets d from) (replicate-append-replicate n 1 v ∙ ap (λ (m : ℕ). replicate m v) (sym more))
+-- a run that is lent and comes back filled with v
+pub run_filled : (d : List ℕ) (from to v : ℕ) {ys : List ℕ} → from ≤ to → to ≤ length d → ys ≡ replicate (length (take (to - from) (drop from d))) v
+    → put_mid from (to - from) d ys ≡ sets d from (replicate (to - from) v)
+run_filled d from to v l h e =
+    let n : length (take (to - from) (drop from d)) ≡ to - from = omega (arith, length-take (to - from) (drop from d), length-drop from d) in
+    let k : from + length (replicate (to - from) v) ≡ from + (to - from) = ap (λ (m : ℕ). from + m) (length-replicate (to - from) v) in
+    rw (e, n, sets-eq (replicate (to - from) v) d from (omega (arith, length-replicate (to - from) v)), k, append_assoc)
+    (ap (λ (z : List ℕ). take from d ++ (replicate (to - from) v ++ z)) (drop-drop (to - from) from d))

@@ -2,26 +2,15 @@
 // `edge_append` appends with these.
 #![tactic(auto)]
 
-ghost use Rattle.std.specs.Prelude.{◌≡◌, ◌-◌, ◌≤◌, length, replicate};
-ghost use Rattle.std.proofs.lemmas.List.Edits.{sets};
+ghost use Rattle.std.specs.Prelude.{◌≡◌, ◌≤◌, length};
 ghost use Rattle.edge_weak.specs.Weak.{kept_of, PairsSettled};
 
 // "A slot is kept if it isn't weak or its class's kind is kept."
+#[tactic(auto, unfolding(crate::specs::Weak::kept_of))]
 pub fn is_kept(weak: u8, keeps: bool) -> bool
     ensures { result ≡ kept_of weak keeps }
 {
-    if weak == 1 { keeps } else { true }
-}
-
-fn fill(d: &mut [u32], v: u32, from: usize, to: usize)
-    requires { (from ≤ to) × (to ≤ length d.old) }
-    ensures { d.new ≡ sets d.old from (replicate (to - from) v) }
-{
-    let mut i = from;
-    while i < to {
-        d[i] = v;
-        i += 1;
-    }
+    weak != 1 || keeps
 }
 
 // The run from one place up to another is the object's.
@@ -29,6 +18,6 @@ pub fn close_run(weak_from: &mut [u32], weak_to: &mut [u32], object: u32, from: 
     requires { (from ≤ to) × (to ≤ length weak_from.old) × (to ≤ length weak_to.old) }
     ensures { PairsSettled object from to weak_from.old weak_to.old weak_from.new weak_to.new }
 {
-    fill(weak_from, object, from, to);
+    weak_from[from..to].fill(object);
     sort::sort_run(weak_to, from, to);
 }

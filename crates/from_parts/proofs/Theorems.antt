@@ -10,7 +10,9 @@ use borrow.Author.Tests.{eq-eqb, le-ltb}
 use Rattle.columns.specs.Lists.{any_of, places}
 use Rattle.columns.specs.Columns.{accepts}
 use Rattle.columns.proofs.Tests.{append-empty, no_places}
-use Rattle.rules.specs.declared.Built.{Built}
+use Rattle.std.specs.Prelude.{Result}
+use Rattle.rules.specs.declared.Counts.{Counts}
+use Rattle.rules.specs.declared.Refusal.{Refusal}
 use Rattle.rules.specs.Types.{built_says}
 use Rattle.rules.specs.Input.{Input, Schema, class_count}
 use Rattle.rules.specs.Edges.{Parts, graph}
@@ -27,7 +29,7 @@ use Rattle.rules.proofs.Even.{schema_lengths_lem}
 use Rattle.from_parts.specs.Parts.{left_as}
 
 -- No second outcome satisfies the promise: the answer, and all eleven columns.
-pub one-handed : (s : Schema) (p : Parts) (l : Lent) {r r' : Built} {a a' : CodedLeft} → left_as (built_says r) a ≡ parts_left s p l
+pub one-handed : (s : Schema) (p : Parts) (l : Lent) {r r' : Result Counts Refusal} {a a' : CodedLeft} → left_as (built_says r) a ≡ parts_left s p l
     → left_as (built_says r') a' ≡ parts_left s p l → (r ≡ r') × (a ≡ a')
 one-handed s p l {r} {r'} e f =
     (one-built r r' (ap (λ (z : PartsLeft). z.says) (e ∙ sym f)), ap (λ (z : PartsLeft). z.coded) (e ∙ sym f))

@@ -8,24 +8,26 @@ ghost use Rattle.columns.specs.Loans.{now_of, old_of, new_of};
 ghost use Rattle.rules.specs.Tables.{class_table, slot_table, static_table, schema_of, coding_room, coding_left};
 ghost use Rattle.from_parts.specs.Parts.{plain_columns, left_as, plain_says};
 
-use rules::{Built, Checked, Counts};
+use rules::{Counts, Refusal};
 
 // The checks' answer as that of a build with nothing coded yet.
-fn counted(c: Checked, weak: usize, roots: usize, dangling: u64) -> Built
+fn counted(
+    c: Result<usize, Refusal>,
+    weak: usize,
+    roots: usize,
+    dangling: u64,
+) -> Result<Counts, Refusal>
     ensures { built_says result ≡ plain_says (checked_says c) weak roots dangling }
 {
-    match c {
-        Checked::Accepted(edges) => Built::Done(Counts {
-            edges: edges,
-            weak: weak,
-            roots: roots,
-            long: 0,
-            fields: 0,
-            escapes: 0,
-            dangling: dangling,
-        }),
-        Checked::Refused(r) => Built::Refused(r),
-    }
+    Ok(Counts {
+        edges: c?,
+        weak,
+        roots,
+        long: 0,
+        fields: 0,
+        escapes: 0,
+        dangling,
+    })
 }
 
 // The coded columns of the graph whose plain columns these are, with the used lengths; or the refusal, after which all eleven are zero.
@@ -63,7 +65,7 @@ pub fn from_parts(
     edge_codes: &mut [u16],
     counting: &mut [u64],
     ranking: &mut [u64],
-) -> Built
+) -> Result<Counts, Refusal>
     ensures { let schema = schema_of (class_table now_of class_ids loaders dumped class_kinds slot_starts slot_ends static_starts static_ends)
         (slot_table now_of slot_offsets slot_labels slot_weak) (static_table now_of static_names static_types static_values) names in
         let parts = plain_columns now_of offsets targets labels weak_from weak_to roots dangling in

@@ -14,10 +14,6 @@ module _ (sources places : List ℕ) (a b objects t k : ℕ) where
   unfolding entry_in
   no_entry l = rw (le-ltb k (b - a) l)
 
-  pub no_source : k < b - a → objects ≤ sources ! (a + k) → entry_in sources places a b objects t k ≡ 12 ∷ t ∷ []
-  unfolding entry_in
-  no_source l m = rw (lt-ltb k (b - a) l, le-ltb (sources ! (a + k)) objects m)
-
   pub is_entry : k < b - a → sources ! (a + k) < objects → entry_in sources places a b objects t k ≡ 0 ∷ sources ! (a + k) ∷ places ! (a + k) ∷ []
   unfolding entry_in
   is_entry l m = rw (lt-ltb k (b - a) l, lt-ltb (sources ! (a + k)) objects m)

@@ -2,8 +2,14 @@
 use Rattle.std.specs.Prelude.{ℕ, ◌+◌, ◌-◌, cond, List, [], ◌∷◌, ltb, length}
 use Rattle.columns.specs.Lists.{◌!◌}
 use Rattle.columns.specs.Columns.{accepts}
+use Rattle.store_read.specs.Back.{blocked_in}
 use Rattle.rules.specs.Incoming.{Incoming}
+use Rattle.incoming_ask.specs.declared.Incoming as Lent
 use Rattle.ask_span.specs.Reading.{span_of}
+
+-- the incoming side that a value lends
+abbrev pub incoming_in : Lent.Incoming → Incoming
+incoming_in i = record { sources = i.sources.now; places = i.places.now; offsets = blocked_in i.offsets }
 
 -- Where the entries of object t stand: INDEX of the object; COLUMNS where its offsets cannot be read, fall, or end past the sources or the places.
 abbrev pub in_span : Incoming → ℕ → List ℕ

@@ -2,75 +2,25 @@
 #![tactic(auto)]
 
 ghost use Rattle.std.specs.Prelude.{◌≡◌, ◌≤◌, length};
-ghost use Rattle.columns.specs.Loans.{now_of};
 ghost use Rattle.rules.specs.Types.{span_says, edge_count_says, entry_says};
-ghost use Rattle.rules.specs.Incoming.{in_columns};
-ghost use Rattle.ask_span.specs.Reading.{count_of, span_part};
-ghost use Rattle.incoming_ask.specs.Entries.{in_span, entry_in, entry_of};
+ghost use Rattle.ask_span.specs.Reading.{count_of};
+ghost use Rattle.incoming_ask.specs.Entries.{incoming_in, in_span, entry_in, entry_of};
 
-use rules::{EdgeCount, Entry, Span};
+// The sources or the places of an object's entries, as a part of their column, by the span that `span` gave.
+pub use ask_span::part_of;
+use rules::{Entry, ReadError, Span};
+use store::Offsets;
 
-// Where the entries of an object stand among the sources and the places.
-pub fn span(
-    sources: &[u32],
-    places: &[u32],
-    in_bases: &[u64],
-    in_short: &[u16],
-    in_long_at: &[u32],
-    in_long_value: &[u64],
-    object: usize,
-) -> Span
-    ensures { span_says result ≡ in_span (in_columns now_of sources places in_bases in_short in_long_at in_long_value) object }
-{
-    ask_span::span_within(
-        in_bases,
-        in_short,
-        in_long_at,
-        in_long_value,
-        sources.len(),
-        places.len(),
-        object,
-    )
-}
-
-// How many edges go to an object: 0 says that nobody holds it.
-pub fn in_degree(
-    sources: &[u32],
-    places: &[u32],
-    in_bases: &[u64],
-    in_short: &[u16],
-    in_long_at: &[u32],
-    in_long_value: &[u64],
-    object: usize,
-) -> EdgeCount
-    ensures { edge_count_says result ≡ count_of (in_span (in_columns now_of sources places in_bases in_short in_long_at in_long_value) object) }
-{
-    ask_span::count_within(
-        in_bases,
-        in_short,
-        in_long_at,
-        in_long_value,
-        sources.len(),
-        places.len(),
-        object,
-    )
-}
-
-// The sources of an object's entries, as a part of their column, by the span that `span` gave; empty of a refusal, or of a span that is none of this column's.
-pub fn sources_of<'a>(sources: &'a [u32], at: Span) -> &'a [u32]
-    ensures { result.now ≡ span_part (span_says at) sources.now }
-{
-    ask_span::targets_of(sources, at)
-}
-
-// The places of an object's entries, likewise.
-pub fn places_of<'a>(places: &'a [u32], at: Span) -> &'a [u32]
-    ensures { result.now ≡ span_part (span_says at) places.now }
-{
-    ask_span::targets_of(places, at)
+// The incoming side of a graph: the sources and the places of the entries, and where each object's begin.
+#[derive(Clone, Copy)]
+pub struct Incoming<'a> {
+    pub sources: &'a [u32],
+    pub places: &'a [u32],
+    pub offsets: Offsets<'a>,
 }
 
 // Entry k of those from `start` up to `end`, each of so many objects.
+#[tactic(auto, unfolding(crate::specs::Entries::entry_in))]
 fn stands_at(
     sources: &[u32],
     places: &[u32],
@@ -79,51 +29,53 @@ fn stands_at(
     objects: usize,
     object: usize,
     k: usize,
-) -> Entry
+) -> Result<Entry, ReadError>
     requires { (start ≤ end) × (end ≤ length sources.now) × (end ≤ length places.now) }
     ensures { entry_says result ≡ entry_in sources.now places.now start end objects object k }
 {
     if end - start <= k {
-        return Entry::Index(k);
+        return Err(ReadError::Index(k));
     }
     let source = sources[start + k];
     if objects <= columns::index(source) {
-        return Entry::Columns(object);
+        return Err(ReadError::Columns(object));
     }
-    Entry::Edge {
+    Ok(Entry {
         source,
         place: places[start + k],
-    }
+    })
 }
 
-// Entry k of an object: who refers to it, and the place of that edge in the target column.
-pub fn entry_at(
-    sources: &[u32],
-    places: &[u32],
-    in_bases: &[u64],
-    in_short: &[u16],
-    in_long_at: &[u32],
-    in_long_value: &[u64],
-    object: usize,
-    k: usize,
-) -> Entry
-    ensures { entry_says result ≡ entry_of (in_columns now_of sources places in_bases in_short in_long_at in_long_value) object k }
-{
-    let at = span(
-        sources,
-        places,
-        in_bases,
-        in_short,
-        in_long_at,
-        in_long_value,
-        object,
-    );
-    match at {
-        Span::Edges { start, end } => {
-            let objects = in_short.len() - 1;
-            stands_at(sources, places, start, end, objects, object, k)
-        }
-        Span::Index(i) => Entry::Index(i),
-        Span::Columns(o) => Entry::Columns(o),
+impl<'a> Incoming<'a> {
+    // Where the entries of an object stand among the sources and the places.
+    pub fn span(self, object: usize) -> Result<Span, ReadError>
+        ensures { span_says result ≡ in_span (incoming_in self.entry) object }
+    {
+        ask_span::span_within(self.offsets, self.sources.len(), self.places.len(), object)
+    }
+
+    // How many edges go to an object: 0 says that nobody holds it.
+    pub fn in_degree(self, object: usize) -> Result<usize, ReadError>
+        ensures { edge_count_says result ≡ count_of (in_span (incoming_in self.entry) object) }
+    {
+        ask_span::count_within(self.offsets, self.sources.len(), self.places.len(), object)
+    }
+
+    // Entry k of an object: who refers to it, and the place of that edge in the target column.
+    #[tactic(auto, unfolding(crate::specs::Entries::entry_of, columns::specs::Columns::accepts))]
+    pub fn entry_at(self, object: usize, k: usize) -> Result<Entry, ReadError>
+        ensures { entry_says result ≡ entry_of (incoming_in self.entry) object k }
+    {
+        let at = self.span(object)?;
+        let objects = self.offsets.short.len() - 1;
+        stands_at(
+            self.sources,
+            self.places,
+            at.start,
+            at.end,
+            objects,
+            object,
+            k,
+        )
     }
 }

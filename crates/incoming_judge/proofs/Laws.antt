@@ -3,49 +3,23 @@ use Prim.Native.Nat.{ℕ, zero, suc, ◌+◌, ◌-◌, ◌≤◌, ◌<◌}
 use native.Mathlib.Nat.{sub_self}
 use native.Mathlib.Omega.{arith}
 use native.Mathlib.Decide.{dec_lt}
-use mathlib.Core.Path.{◌≡◌, refl, sym, ap, ap₂, ◌∙◌}
+use mathlib.Core.Path.{◌≡◌, sym, ap, ap₂, ◌∙◌}
 use mathlib.Core.Bool.{Bool, true, false, not, false≢true}
-use mathlib.Core.List.{List, [], ◌∷◌}
+use mathlib.Core.List.{List}
 use lib.ListN.{length, get_or}
-use borrow.Author.Tests.{lt-leb, leb-true, leb-false, le-leb}
-use Rattle.columns.specs.Lists.{◌!◌, places, first_place, any, all_of}
+use borrow.Author.Tests.{lt-leb, leb-true, leb-false}
+use Rattle.columns.specs.Lists.{◌!◌, places, first_place, any}
 use Rattle.columns.proofs.Lists.{first_none}
 use Rattle.columns.proofs.Tests.{each_of, no_places}
-use Rattle.rules.specs.Labels.{Coded}
 use Rattle.rules.specs.Parts.{no_object}
 use Rattle.rules.specs.Questions.{Columns, objects_in, offset_at}
 use Rattle.rules.specs.Incoming.{Spanned}
 use Rattle.rules.proofs.Incoming.{can_spanned}
 use Rattle.inverse.specs.Inverse.{tallied, Tallied}
-use Rattle.incoming_read.specs.Unread.{first_unread, lists_rise, span_reads, codes_plain}
+use Rattle.incoming_read.specs.Unread.{first_unread, span_reads, codes_plain}
 use Rattle.incoming_read.proofs.Lowest.{unread_none, none_unread, good_spans}
 use Rattle.incoming_read.proofs.Quick.{quick_reads, spans_end}
 use Rattle.incoming_judge.specs.Judged.{Judged, Counted, no_doubt}
-
--- the tests one by one
-module _ (narrow : Bool) (long_at long_value : List ℕ) (d : Coded) (from to stop : ℕ) where
-  abbrev tested : Bool
-  tested = no_doubt narrow long_at long_value d from to stop
-
-  pub stopped : stop < to → false ≡ tested
-  unfolding no_doubt all_of
-  stopped l = rw (lt-leb to stop l)
-
-  pub not_narrow : to ≤ stop → narrow ≡ false → false ≡ tested
-  unfolding no_doubt all_of
-  not_narrow l e = rw (le-leb to stop l, e)
-
-  pub not_risen : to ≤ stop → narrow ≡ true → lists_rise long_at long_value d.escape_at d.escape_label ≡ false → false ≡ tested
-  unfolding no_doubt all_of
-  not_risen l e f = rw (le-leb to stop l, e, f)
-
-  pub by_codes : to ≤ stop → narrow ≡ true → lists_rise long_at long_value d.escape_at d.escape_label ≡ true → codes_plain d from to ≡ tested
-  unfolding no_doubt all_of
-  by_codes l e f = rw (le-leb to stop l, e, f) (last (codes_plain d from to))
-    where
-      last : (b : Bool) → b ≡ all_of (b ∷ [])
-      last true = refl
-      last false = refl
 
 -- every place from the first object's offset up to the last one's end is of some object's edge
 objects_between : (c : Columns) → Spanned c → (m : ℕ) → m ≤ objects_in c → (e : ℕ) → offset_at c 0 ≤ e → e < offset_at c m → c.targets ! e < objects_in c

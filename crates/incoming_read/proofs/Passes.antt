@@ -3,29 +3,23 @@ use Prim.Native.Nat.{ℕ, zero, suc, pred, ◌+◌, ◌-◌, ◌≤◌, ◌<◌,
 use native.Mathlib.Omega.{arith}
 use native.Mathlib.Numerals.{add-one}
 use mathlib.Core.Path.{◌≡◌, refl, sym, ap, ◌∙◌}
-use mathlib.Core.Logic.{⊎_elim}
-use mathlib.Core.Bool.{Bool, true, false, cond, not, ◌&&◌, ◌||◌}
+use mathlib.Core.Logic.{⊎_elim, ◌↔◌}
+use mathlib.Core.Bool.{Bool, true, false, cond, not, ◌||◌}
 use mathlib.Core.List.{List, []}
-use lib.Dec.{eqb, leb, ltb}
+use lib.Dec.{leb, ltb}
 use lib.ListN.{length}
-use borrow.Author.Tests.{lt-ltb, le-ltb, le-leb, lt-leb, eq-eqb, ne_eqb}
+use borrow.Author.Tests.{lt-ltb, le-ltb, le-leb, lt-leb, leb-false}
 use Rattle.columns.specs.Lists.{◌!◌, any, all_of, part}
 use Rattle.columns.proofs.Lists.{lt_or_ge}
 use Rattle.columns.proofs.Sums.{part_at, part_length_lem}
 use Rattle.columns.proofs.Tests.{any_false, none_any, some_any, any_more, and_true}
-use Rattle.columns.proofs.First.{Passing, passing_more, passing_hit, passing_end}
 use Rattle.rules.specs.Types.{array_element_label, is_element}
 use Rattle.rules.specs.Parts.{no_object}
 use Rattle.rules.specs.Questions.{rises}
 use Rattle.rules.specs.Verdict.{falls}
 use Rattle.labels.specs.Reading.{coded_of}
-use Rattle.incoming_read.specs.Unread.{lists_rise, is_plain, codes_plain}
+use Rattle.incoming_read.specs.Unread.{is_plain, codes_plain}
 use Rattle.incoming_read.specs.Steps.{objects_only, is_odd, plain_only, fields_only}
-
--- a test beside one that fails
-pub and_false : (b : Bool) → b && false ≡ false
-and_false true = refl
-and_false false = refl
 
 -- the numbers before i rise
 pub record Rising (xs : List ℕ) (i : ℕ) : Type 0 where
@@ -73,42 +67,29 @@ module _ (t : ℕ → Bool) (n : ℕ) where
   pub met-end : {met : Bool} {i : ℕ} → Met t n met i → n ≤ i → met ≡ any t n
   met-end {met} {i} m l = let e : i ≡ n = omega (arith, m.within) in m.so ∙ ap (any t) e
 
+-- a test of each place, which is made place by place
+decided : (b : Bool) (t : ℕ → Bool) (n : ℕ) → (b ≡ true → (k : ℕ) → k < n → t k ≡ false) → (((k : ℕ) → k < n → t k ≡ false) → b ≡ true) → b ≡ not (any t n)
+decided true t n f g = ap not (sym (none_any t n (f refl)))
+decided false t n f g = go (any t n) refl
+  where
+    go : (a : Bool) → any t n ≡ a → false ≡ not a
+    go true e = refl
+    go false e = g (λ k l. any_false t n k e l)
+
 -- the targets from one place up to another are objects
-module _ (objects : ℕ) (ts : List ℕ) (from to : ℕ) where
-  abbrev pub out : ℕ → Bool
-  out k = no_object objects ts (from + k)
-
-  module _ {e : ℕ} (p : Passing out from to e) where
-    here : from + (e - from) ≡ e
-    here = omega (arith, p.low)
-
-    pub objects_more : e < to → ts ! e < objects → Passing out from to (e + 1)
-    objects_more m l = passing_more out from to p m (rw here (lt-leb objects (ts ! e) l))
-
-    pub objects-out : e < to → objects ≤ ts ! e → false ≡ objects_only objects ts from (to - from)
-    unfolding objects_only
-    objects-out m l = ap not (passing_hit out from to p m (rw here (le-leb objects (ts ! e) l)))
-
-    pub objects-end : to ≤ e → true ≡ objects_only objects ts from (to - from)
-    unfolding objects_only
-    objects-end m = ap not (passing_end out from to p m)
+pub objects_each : {b : Bool} (objects : ℕ) (ts : List ℕ) (from to : ℕ) → to ≤ length ts
+    → (b ≡ true ↔ ((k : ℕ) → k < length (part ts from to) → part ts from to ! k < objects)) → b ≡ objects_only objects ts from (to - from)
+unfolding objects_only
+objects_each {b} objects ts from to inside h =
+    let long : length (part ts from to) ≡ to - from = part_length_lem ts from to inside in
+    decided b (λ k. no_object objects ts (from + k)) (to - from)
+    (λ e k l. lt-leb objects _ (rw part_at at (h.0 e k (omega arith))))
+    (λ q. h.1 (λ k l. let m : k < to - from = omega arith in rw (part_at ts from to k m) (leb-false objects _ (q k m))))
 
 -- no field has an element's label
-module _ (fields : List ℕ) where
-  abbrev pub element : ℕ → Bool
-  element i = is_element (fields ! i)
-
-  module _ {i : ℕ} (m : Met element (length fields) false i) where
-    pub fields_more : i < length fields → fields ! i < array_element_label → Met element (length fields) false (i + 1)
-    fields_more l h = met_more element (length fields) m l (sym (lt-leb array_element_label (fields ! i) h))
-
-    pub fields_out : i < length fields → array_element_label ≤ fields ! i → false ≡ fields_only fields
-    unfolding fields_only
-    fields_out l h = ap not (sym (some_any element (length fields) i l (le-leb array_element_label (fields ! i) h)))
-
-    pub fields-end : length fields ≤ i → true ≡ fields_only fields
-    unfolding fields_only
-    fields-end l = ap not (met-end element (length fields) m l)
+pub fields_each : {b : Bool} (fields : List ℕ) → (b ≡ true ↔ ((k : ℕ) → k < length fields → fields ! k < array_element_label)) → b ≡ fields_only fields
+unfolding fields_only
+fields_each {b} fields h = decided b (λ i. is_element (fields ! i)) (length fields) (λ e k l. lt-leb _ _ (h.0 e k l)) (λ q. h.1 (λ k l. leb-false _ _ (q k l)))
 
 -- the codes of a list are plain
 module _ (limit : ℕ) (codes : List ℕ) where
@@ -153,27 +134,3 @@ module _ (codes fields : List ℕ) (start end : ℕ) (inside : end ≤ length co
     pub plain_none : plain_only limit (part codes start end) ≡ false → false ≡ codes_plain (coded_of codes fields [] []) start end
     unfolding codes_plain all_of
     plain_none h = sym (rw (sym whole ∙ h))
-
--- the tests of the four lists, in the order in which they are made
-module _ (long_at long_value escape_at escape_label : List ℕ) where
-  pub long_apart : (length long_at ≡ length long_value → ⊥) → false ≡ lists_rise long_at long_value escape_at escape_label
-  unfolding lists_rise all_of
-  long_apart d = sym (rw (ne_eqb _ _ d) (and_false (rises long_at)))
-
-  pub escapes_apart : (length escape_at ≡ length escape_label → ⊥) → false ≡ lists_rise long_at long_value escape_at escape_label
-  unfolding lists_rise all_of
-  escapes_apart d = sym (rw (ne_eqb _ _ d) (none (rises long_at) (eqb (length long_at) (length long_value)) (rises escape_at)))
-    where
-      none : (a b c : Bool) → a && (b && (c && false)) ≡ false
-      none true true c = and_false c
-      none true false c = refl
-      none false b c = refl
-
-  pub long_falls : {long : Bool} → long ≡ rises long_at → long ≡ false → false ≡ lists_rise long_at long_value escape_at escape_label
-  unfolding lists_rise all_of
-  long_falls e f = sym (rw (sym e ∙ f))
-
-  pub escapes_decide : {long escapes : Bool} → length long_at ≡ length long_value → length escape_at ≡ length escape_label → long ≡ rises long_at → long ≡ true
-      → escapes ≡ rises escape_at → escapes ≡ lists_rise long_at long_value escape_at escape_label
-  unfolding lists_rise all_of
-  escapes_decide a b e f d = d ∙ sym (rw (sym e ∙ f, eq-eqb _ _ a, eq-eqb _ _ b) (and_true (rises escape_at)))

@@ -11,8 +11,11 @@ use Rattle.columns.specs.Lists.{◌!◌, any}
 use Rattle.columns.specs.Columns.{accepts}
 use Rattle.columns.proofs.Answers.{accepting}
 use Rattle.columns.proofs.Tests.{some_any, any_more}
-use Rattle.store.specs.Blocked.{Blocked, read_back}
-use Rattle.incoming_read.specs.declared.pass.Spans.{Spans}
+use Rattle.store.specs.Blocked.{Blocked, offset_says, read_back}
+use Rattle.std.specs.Prelude.{None, Some, Result, Ok, Err}
+use Rattle.std.specs.Result.{result_ok}
+use Rattle.store_read.specs.declared.ReadError.{ReadError}
+use Rattle.rules.proofs.Types.{read_refuses}
 use Rattle.incoming_read.specs.Unread.{span_reads, is_narrow, SpansRead}
 use Rattle.incoming_read.proofs.Readable.{SpanMeets, span_meets, meets_span}
 
@@ -24,6 +27,15 @@ narrower : (a b : Bool) → not a && b ≡ not (a || not b)
 narrower true b = refl
 narrower false true = refl
 narrower false false = refl
+
+-- what the answer for an offset says, by the value that is taken from it
+pub offset_some : (r : Result ℕ ReadError) {v : ℕ} {says : List ℕ} → Some v ≡ result_ok r → offset_says r ≡ says → says ≡ 0 ∷ v ∷ []
+offset_some (Ok x) h e = let z : x ≡ _ = cc in sym e ∙ ap (λ (v : ℕ). 0 ∷ v ∷ []) z
+offset_some (Err x) h e = cc
+
+pub offset_none : (r : Result ℕ ReadError) {says : List ℕ} → None ≡ result_ok r → offset_says r ≡ says → accepts says ≡ false
+offset_none (Ok x) h e = cc
+offset_none (Err x) h e = rw (← e) (read_refuses x)
 
 module _ (b : Blocked) (codes targets : ℕ) where
   abbrev objects : ℕ
@@ -47,22 +59,20 @@ module _ (b : Blocked) (codes targets : ℕ) where
   spanning_start h = record { within = omega arith; reads = h; good = refl; slender = refl }
 
   -- a span that cannot be read
-  pub spans_bad : {o : ℕ} {r : Spans} → o < objects → (SpanMeets b codes targets o → ⊥) → r.good ≡ false → SpansRead b codes targets r
-  spans_bad {o} {r} l h e =
-      let no : r.good ≡ true → ⊥ = λ q. false≢true (sym e ∙ q) in
-      record {
-        good = e ∙ ap not (sym (some_any unread objects o l (refuted (span_reads b codes targets o) (λ q. h (span_meets b codes targets o l q)))));
-        narrow = λ q. absurd (no q);
-        start = λ q. absurd (no q);
-        end = λ q. absurd (no q);
-      }
+  pub spans_bad : {o : ℕ} → o < objects → (SpanMeets b codes targets o → ⊥) → SpansRead b codes targets None
+  spans_bad {o} l h = record {
+    good = ap not (sym (some_any unread objects o l (refuted (span_reads b codes targets o) (λ q. h (span_meets b codes targets o l q)))));
+    narrow = λ s e. cc;
+    start = λ s e. cc;
+    end = λ s e. cc;
+  }
 
   -- there are too many objects, or the first offset cannot be read
-  pub spans_many : {r : Spans} → 67108865 < length b.short → r.good ≡ false → SpansRead b codes targets r
-  spans_many l e = spans_bad {o = 67108864} (omega arith) (λ q. omega (arith, q.few)) e
+  pub spans_many : 67108865 < length b.short → SpansRead b codes targets None
+  spans_many l = spans_bad {o = 67108864} (omega arith) (λ q. omega (arith, q.few))
 
-  pub spans_unstarted : {r : Spans} → 2 ≤ length b.short → accepts (read_back b 0) ≡ false → r.good ≡ false → SpansRead b codes targets r
-  spans_unstarted l h e = spans_bad {o = 0} (omega arith) (λ q. false≢true (sym h ∙ q.first)) e
+  pub spans_unstarted : 2 ≤ length b.short → accepts (read_back b 0) ≡ false → SpansRead b codes targets None
+  spans_unstarted l h = spans_bad {o = 0} (omega arith) (λ q. false≢true (sym h ∙ q.first))
 
   module _ {last o : ℕ} {narrow : Bool} (s : Spanning last narrow o) where
     starts : read_back b o ! 1 ≡ last
@@ -104,13 +114,3 @@ module _ (b : Blocked) (codes targets : ℕ) where
 
     pub span_refused : o < objects → accepts (read_back b (o + 1)) ≡ false → SpanMeets b codes targets o → ⊥
     span_refused l h q = false≢true (sym h ∙ ap (λ (i : ℕ). accepts (read_back b i)) (add-one o) ∙ q.next)
-
-    pub spanning_end : {r : Spans} → objects ≤ o → read_back b 0 ! 1 ≡ r.start → r.good ≡ true → r.narrow ≡ narrow → r.end ≡ last → SpansRead b codes targets r
-    spanning_end {r} l first g n e =
-        let z : o ≡ objects = omega (arith, s.within) in
-        record {
-          good = g ∙ ap not (sym (rw z at s.good));
-          narrow = λ q. n ∙ s.slender ∙ ap (λ (k : ℕ). not (any wide k)) z;
-          start = λ q. sym first;
-          end = λ q. e ∙ sym starts ∙ ap (λ (k : ℕ). read_back b k ! 1) z;
-        }

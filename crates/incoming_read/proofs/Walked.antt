@@ -14,10 +14,11 @@ use Rattle.columns.specs.Ranks.{Rises, bisect}
 use Rattle.columns.proofs.Search.{find-bisect, lookup-find}
 use Rattle.columns.proofs.Tests.{any_false, each_of}
 use Rattle.rules.specs.Types.{array_element_label, is_element}
-use Rattle.rules.specs.Labels.{Coded, is_escaped, expected_at}
+use Rattle.rules.specs.Labels.{Coded, after, is_escaped, expected_at}
 use Rattle.rules.specs.Questions.{label_reads}
 use Rattle.labels.specs.Reading.{row_back, element_back, field_back, code_back, step_back, next_of, onward, next_back}
 use Rattle.labels.proofs.Back.{next-back}
+use Rattle.labels.proofs.Walk.{next_more}
 use Rattle.incoming_read.specs.Steps.{something, walks_past}
 
 something-one : (t : Bool) (a : ℕ) → something (cond t (a ∷ []) []) ≡ t
@@ -42,23 +43,30 @@ fewer true true l f e = let z : ◌≡◌ {A = ℕ} 0 1 = cc in absurd (omega ar
 fewer true false l f e = refl
 fewer false b l f e = refl
 
--- a walk that stops at a label, and one that gets to the end
+-- a walk of the edges from e on, by their places: it goes on behind a label that is read, stops at one that is not, and gets to the end
 module _ (d : Coded) (e : ℕ) where
   stays : (i m : ℕ) → next_back d e i ≡ [] → next_back d e (i + m) ≡ []
   unfolding next_back
   stays i zero w = rw (add-zero i) w
   stays i (suc m) w = rw (add-suc i m, stays i m w)
 
-  pub walk_stops : {n : ℕ} (k next : ℕ) → k < n → next_back d e k ≡ next ∷ [] → step_back d e k next ≡ [] → false ≡ walks_past d e n
-  unfolding walks_past next_back
-  walk_stops {n} k next l w s =
-      let stop : next_back d e (suc k) ≡ [] = rw (w, s) in
-      let z : suc k + (n - suc k) ≡ n = omega arith in
-      rw (← z, stays (suc k) (n - suc k) stop)
+  module _ {p next : ℕ} (low : e ≤ p) (w : next_back d e (p - e) ≡ next ∷ []) where
+    at : e + (p - e) ≡ p
+    at = omega arith
 
-  pub walk_ends : {n k next : ℕ} → k ≤ n → n ≤ k → next_back d e k ≡ next ∷ [] → true ≡ walks_past d e n
-  unfolding walks_past
-  walk_ends {n} {k} a b w = let z : k ≡ n = omega arith in rw (← z, w)
+    pub walk_more : {label : ℕ} → code_back d.fields d.escape_at d.escape_label p next (d.codes ! p) ≡ label ∷ [] → next_back d e (p + 1 - e) ≡ after next label ∷ []
+    walk_more {label} s = let more : p + 1 - e ≡ p - e + 1 = omega arith in rw more (next_more d e (p - e) next label w (rw at s))
+
+    pub walk_stops : {to : ℕ} → p < to → code_back d.fields d.escape_at d.escape_label p next (d.codes ! p) ≡ [] → false ≡ walks_past d e (to - e)
+    unfolding walks_past next_back
+    walk_stops {to} l s =
+        let stop : next_back d e (suc (p - e)) ≡ [] = rw (w, at, s) in
+        let z : suc (p - e) + (to - e - suc (p - e)) ≡ to - e = omega arith in
+        rw (← z, stays (suc (p - e)) (to - e - suc (p - e)) stop)
+
+    pub walk_ends : {to : ℕ} → p ≡ to → true ≡ walks_past d e (to - e)
+    unfolding walks_past
+    walk_ends q = rw (← q, w)
 
 module _ (d : Coded) (rise : Rises d.escape_at) (same : length d.escape_at ≡ length d.escape_label) where
   abbrev keys : List ℕ

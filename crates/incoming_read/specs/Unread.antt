@@ -1,5 +1,5 @@
 -- Which objects inverting cannot read back, edge by edge; and the tests that leave no doubt, without a walk of every label. Assumes nothing.
-use Rattle.std.specs.Prelude.{ℕ, suc, ◌+◌, ◌-◌, min, ◌≡◌, Bool, true, cond, not, List, [], ◌∷◌, eqb, leb, ltb, length}
+use Rattle.std.specs.Prelude.{ℕ, suc, ◌+◌, ◌-◌, min, ◌≡◌, Bool, cond, not, List, [], ◌∷◌, eqb, leb, ltb, length, Option, Some, is_some}
 use Rattle.columns.specs.Lists.{◌!◌, any, first_place, all_of}
 use Rattle.columns.specs.Columns.{accepts}
 use Rattle.store.specs.Blocked.{Blocked, read_back}
@@ -28,11 +28,11 @@ unfoldable pub is_narrow : Blocked → ℕ → Bool
 is_narrow b o = leb (read_back b (suc o) ! 1 - read_back b o ! 1) 65536
 
 -- All spans read: then where the first object's edges begin and the last one's end, and whether all are narrow. There is an object.
-pub record SpansRead (b : Blocked) (codes targets : ℕ) (r : Spans) : Type 0 where
-  pub good : r.good ≡ not (any (λ o. not (span_reads b codes targets o)) (length b.short - 1))
-  pub narrow : r.good ≡ true → r.narrow ≡ not (any (λ o. not (is_narrow b o)) (length b.short - 1))
-  pub start : r.good ≡ true → r.start ≡ read_back b 0 ! 1
-  pub end : r.good ≡ true → r.end ≡ read_back b (length b.short - 1) ! 1
+pub record SpansRead (b : Blocked) (codes targets : ℕ) (r : Option Spans) : Type 0 where
+  pub good : is_some r ≡ not (any (λ o. not (span_reads b codes targets o)) (length b.short - 1))
+  pub narrow : (s : Spans) → r ≡ Some s → s.narrow ≡ not (any (λ o. not (is_narrow b o)) (length b.short - 1))
+  pub start : (s : Spans) → r ≡ Some s → s.start ≡ read_back b 0 ! 1
+  pub end : (s : Spans) → r ≡ Some s → s.end ≡ read_back b (length b.short - 1) ! 1
 
 -- A code that asks for no row: an element's gap, or the place of one of so many fields.
 unfoldable pub is_plain : ℕ → ℕ → Bool

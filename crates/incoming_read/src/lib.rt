@@ -7,100 +7,52 @@ pub mod pass;
 mod walk;
 
 ghost use Rattle.std.specs.Prelude.{◌≡◌, ◌≤◌, [], length};
-ghost use Rattle.columns.specs.Loans.{now_of};
-ghost use Rattle.rules.specs.Tables.{offset_columns};
+ghost use Rattle.store_read.specs.Back.{blocked_in};
 ghost use Rattle.labels.specs.Reading.{coded_of};
-ghost use Rattle.ask_span.specs.Graph.{edge_columns};
+ghost use Rattle.ask_span.specs.Graph.{strong_in};
 ghost use Rattle.incoming_read.specs.Unread.{first_unread, lists_rise, SpansRead, codes_plain};
 
+use ask_span::Strong;
 use pass::Spans;
-use store::Offset;
 
 // Whether the long and escape lists rise, and are columns of one table each.
-pub fn lists_rise(
-    long_at: &[u32],
-    long_value: &[u64],
-    escape_at: &[u64],
-    escape_label: &[u32],
-) -> bool
-    ensures { result ≡ lists_rise long_at.now long_value.now escape_at.now escape_label.now }
+#[tactic(auto, unfolding(crate::specs::Unread::lists_rise, columns::specs::Lists::all_of))]
+pub fn lists_rise(graph: Strong<'_>) -> bool
+    ensures { let g = graph.entry in
+        result ≡ lists_rise g.offsets.long_at.now g.offsets.long_value.now g.labels.escape_at.now g.labels.escape_label.now }
 {
-    if long_at.len() != long_value.len() {
-        return false;
-    }
-    if escape_at.len() != escape_label.len() {
-        return false;
-    }
-    if checks::rises_u32(long_at) {
-        return checks::rises_u64(escape_at);
-    }
-    false
+    graph.offsets.long_at.len() == graph.offsets.long_value.len()
+        && graph.labels.escape_at.len() == graph.labels.escape_label.len()
+        && checks::rises(graph.offsets.long_at)
+        && checks::rises(graph.labels.escape_at)
 }
 
 // The lowest object that cannot be read back, or how many objects there are. Where a list does not rise none can be.
-pub fn first_unread(
-    bases: &[u64],
-    short: &[u16],
-    long_at: &[u32],
-    long_value: &[u64],
-    edge_codes: &[u16],
-    targets: &[u32],
-    fields: &[u32],
-    escape_at: &[u64],
-    escape_label: &[u32],
-) -> usize
-    ensures { result ≡ first_unread (edge_columns now_of bases short long_at long_value edge_codes targets fields escape_at escape_label) }
+pub fn first_unread(graph: Strong<'_>) -> usize
+    ensures { result ≡ first_unread (strong_in graph.entry) }
 {
-    if lists_rise(long_at, long_value, escape_at, escape_label) {
-        let objects = checks::less_one(short.len());
-        let mut o = 0;
-        while o < objects {
-            if object::reads(
-                bases,
-                short,
-                long_at,
-                long_value,
-                edge_codes,
-                targets,
-                fields,
-                escape_at,
-                escape_label,
-                o,
-            ) {
-                o += 1;
-            } else {
-                return o;
-            }
-        }
-        return o;
+    if !lists_rise(graph) {
+        return 0;
     }
-    0
+    let objects = graph.offsets.short.len().saturating_sub(1);
+    for o in 0..objects {
+        if !object::reads(graph, o) {
+            return o;
+        }
+    }
+    objects
 }
 
-// Looks at the spans of all objects, reading each offset once.
-pub fn spans(
-    bases: &[u64],
-    short: &[u16],
-    long_at: &[u32],
-    long_value: &[u64],
-    edge_codes: &[u16],
-    targets: &[u32],
-) -> Spans
-    requires { 2 ≤ length short.now }
-    ensures { SpansRead (offset_columns now_of bases short long_at long_value) (length edge_codes.now) (length targets.now) result }
+// Looks at the spans of all objects, reading each offset once; none where one does not read.
+pub fn spans(graph: Strong<'_>) -> Option<Spans>
+    requires { 2 ≤ length graph.offsets.short.now }
+    ensures { let g = graph.entry in SpansRead (blocked_in g.offsets) (length g.labels.codes.now) (length g.targets.now) result }
 {
-    if 67108865 < short.len() {
-        return pass::bad();
+    if 67108865 < graph.offsets.short.len() {
+        return None;
     }
-    match store::offset_at(bases, short, long_at, long_value, 0) {
-        Offset::Value(start) => {
-            pass::spans_from(
-                bases, short, long_at, long_value, edge_codes, targets, start,
-            )
-        }
-        Offset::Index(_) => pass::bad(),
-        Offset::Columns(_) => pass::bad(),
-    }
+    let start = graph.offsets.at(0).ok()?;
+    pass::spans_from(graph, start)
 }
 
 // Whether the codes from one place up to another ask for no row, and no field has an element's label.
@@ -108,8 +60,6 @@ pub fn codes_plain(edge_codes: &[u16], fields: &[u32], start: usize, end: usize)
     requires { (start ≤ end) × (end ≤ length edge_codes.now) }
     ensures { result ≡ codes_plain (coded_of edge_codes.now fields.now [] []) start end }
 {
-    if checks::all_plain(&edge_codes[start..end], checks::field_limit(fields.len())) {
-        return checks::all_fields(fields);
-    }
-    false
+    checks::all_plain(&edge_codes[start..end], checks::field_limit(fields.len()))
+        && checks::all_fields(fields)
 }

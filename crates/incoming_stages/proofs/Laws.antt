@@ -17,10 +17,38 @@ use Rattle.columns.proofs.Tests.{each_of, no_places}
 use Rattle.columns.proofs.Written.{leaves-zeros}
 use Rattle.store.specs.declared.CodedOffsets.{CodedOffsets}
 use Rattle.store.specs.Blocked.{blocks_of, above_at, is_long, long_rows, coded_says, coding_says, Coding, Accepted, Filled, Emptied}
-use Rattle.store.specs.declared.CodedOffsets.TheVariants.{Done, Room}
+use Rattle.store.specs.declared.OffsetsError.{OffsetsError}
+use Rattle.store.specs.declared.OffsetsError.TheVariants.{Room}
+use Rattle.std.specs.Prelude.{Result, Ok, Err, is_err, not}
 use Rattle.store.proofs.Verdict.{climbs_high, coding-done, coding_refused}
+use Rattle.rules.specs.declared.Inverse.{Inverse}
+use Rattle.rules.specs.declared.InvertError.{InvertError}
+use Rattle.rules.specs.Types.{inverted_says, invert_error_says}
 use Rattle.incoming_stages.specs.Stages.{Climbing, long_fits, coded_as, coded_after, CodedIn}
 pub use Rattle.incoming_room.proofs.Rooms.{early-columns}
+
+invert_refuses : (e : InvertError) → accepts (invert_error_says e) ≡ false
+unfolding accepts
+invert_refuses (InvertError.Room k) = refl
+invert_refuses (InvertError.Columns o) = refl
+
+-- an answer that is a value accepts, and one that is an error does not
+module _ {answer : Result Inverse InvertError} where
+  pub accepts-ok : {inverse : Inverse} → answer ≡ Ok inverse → accepts (inverted_says answer) ≡ true
+  unfolding accepts
+  accepts-ok e = rw e
+
+  pub accepts-err : {error : InvertError} → answer ≡ Err error → accepts (inverted_says answer) ≡ false
+  accepts-err {error} e = rw e (invert_refuses error)
+
+  pub entries-ok : {inverse : Inverse} → answer ≡ Ok inverse → inverse.entries ≡ kept 1 (inverted_says answer)
+  unfolding kept accepts
+  entries-ok e = rw e
+
+-- the same by the test
+pub accepts_is : (answer : Result Inverse InvertError) → accepts (inverted_says answer) ≡ not (is_err answer)
+accepts_is (Ok inverse) = accepts-ok refl
+accepts_is (Err error) = invert_refuses error
 
 -- The offsets: a refusal is handed on, and the columns are zero; else the coding decides.
 module _ (says w : List ℕ) (objects nb ns na nv : ℕ) where
@@ -47,7 +75,7 @@ module _ (says w : List ℕ) (objects nb ns na nv : ℕ) where
   unfolding leaves
   leaves-same t u xs m e = rw e
 
-  pub code-done : {r : CodedOffsets} {e : ℕ} {says' b s a v : List ℕ} → accepts says ≡ true → e ≡ kept 1 says → says' ≡ coded_as e (coded_says r)
+  pub code-done : {r : Result CodedOffsets OffsetsError} {e : ℕ} {says' b s a v : List ℕ} → accepts says ≡ true → e ≡ kept 1 says → says' ≡ coded_as e (coded_says r)
       → Coding (take (objects + 1) w) nb ns na nv r b s a v → CodedIn says objects w nb ns na nv says' b s a v
   unfolding coded_after kept
   code-done {r} {e} {says'} ok k q c =
@@ -108,11 +136,11 @@ module _ (vs : List ℕ) (nb ns na nv : ℕ) (h : Climbing vs nb ns) {rows : ℕ
   climbing_accepted t = accepted_climbs vs nb ns na nv h (rw e at t)
 
   pub climbing_done : {b s a v : List ℕ} → long_fits rows na nv ≡ true → Filled vs nb ns na nv b s a v
-      → Coding vs nb ns na nv (Done (blocks_of (length vs)) (length vs) rows) b s a v
+      → Coding vs nb ns na nv (Ok (record { bases = blocks_of (length vs); short = length vs; long = rows })) b s a v
   climbing_done t f =
       coding-done vs nb ns na nv _ (ap (λ (k : ℕ). 0 ∷ blocks_of (length vs) ∷ length vs ∷ k ∷ []) e ∙ sym (coding-fits vs nb ns na nv h (rw e at t))) (accepting _) f
 
-  pub climbing_short : {b s a v : List ℕ} → long_fits rows na nv ≡ false → Emptied nb ns na nv b s a v → Coding vs nb ns na nv (Room 5) b s a v
+  pub climbing_short : {b s a v : List ℕ} → long_fits rows na nv ≡ false → Emptied nb ns na nv b s a v → Coding vs nb ns na nv (Err (Room 5)) b s a v
   unfolding accepts
   climbing_short t z = coding_refused vs nb ns na nv _ (sym (coding-short vs nb ns na nv h (rw e at t))) refl z
 

@@ -1,3 +1,4 @@
 pub mod Verdict
+pub mod Counts
 pub mod Zeros
 pub mod Theorems

@@ -1,11 +1,10 @@
 -- What the contracts come to: reading back what an accepted coding left gives the coded ids, and no call has a second outcome. Assumes nothing.
 use mathlib.Core.Path.{◌≡◌, refl, sym, ap, ◌∙◌}
 use mathlib.Core.Bool.{Bool, true, false, cond}
-use mathlib.Core.List.{List, [], ◌∷◌, map}
+use mathlib.Core.List.{List, [], ◌∷◌}
 use Prim.Native.Nat.{ℕ, ◌+◌, ◌-◌, ◌*◌, ◌/◌, ◌%◌, ◌^◌, ◌≤◌, ◌<◌}
 use native.Mathlib.Omega.{arith}
 use borrow.Author.Tests.{lt-ltb, eq-eqb, ne_eqb, eqb-true, eqb-false, leb-true, lt-leb}
-use lib.Count.{count_trailing_zeros}
 use lib.Dec.{eqb, leb}
 use lib.ListN.{length, take, length-map}
 use Rattle.columns.specs.Lists.{◌!◌, all_of, any_of}
@@ -16,10 +15,12 @@ use Rattle.columns.proofs.Written.{used_part, used_length}
 use Rattle.columns.proofs.Ranks.{bisect-found}
 use Rattle.columns.proofs.Tests.{each_of}
 use Rattle.index.specs.declared.CodedIds.{CodedIds}
-use Rattle.index.specs.declared.CodedIds.TheVariants.{Done, Room}
-use Rattle.index_read.specs.declared.CopiedId.{CopiedId}
-use Rattle.index_read.specs.declared.CopiedId.TheVariants.{Id, Index, Copied}
-use Rattle.index.specs.Copied.{ids_coded_says, id_says, escaped_code, inline, code_of, codes_to, is_escape, escapes_to, escape_ids_to, escape_rows, ids_of, copied_of, ids_coding_says, IdsAccepted, IdsCoding, whole, escape_back, id_back}
+use Rattle.index.specs.declared.IdsError.{IdsError}
+use Rattle.index.specs.declared.IdsError.TheVariants.{Room}
+use Rattle.std.specs.Prelude.{Result, Ok, Err}
+use Rattle.index_read.specs.declared.IdError.{IdError}
+use Rattle.index_read.specs.declared.IdError.TheVariants.{Index, Copied}
+use Rattle.index.specs.Copied.{ids_coded_says, id_says, escaped_code, inline, code_of, codes_to, is_escape, escapes_to, escape_ids_to, escape_rows, ids_of, copied_of, IdsCoding, whole, escape_back, id_back}
 use Rattle.index.proofs.Verdict.{coding_accepted, accepted_says}
 use Rattle.index.proofs.Zeros.{three-zeros}
 
@@ -100,21 +101,21 @@ module _ (base : ℕ) (ids : List ℕ) (i : ℕ) (l : i < length ids) (fits : id
       go false t = plain_back_lem (eqb-false _ _ t)
 
 -- What a caller has who has matched the answer: the used parts are parts, and together the coded columns.
-module _ {base : ℕ} {ids : List ℕ} {nc np ni : ℕ} {r : CodedIds} {c p v : List ℕ} (w : IdsCoding base ids nc np ni r c p v) {n k : ℕ} (e : r ≡ Done n k) where
+module _ {base : ℕ} {ids : List ℕ} {nc np ni : ℕ} {r : Result CodedIds IdsError} {c p v : List ℕ} (w : IdsCoding base ids nc np ni r c p v) {coded : CodedIds} (e : r ≡ Ok coded) where
   done-accepts : accepts (ids_coded_says r) ≡ true
   unfolding accepts
   done-accepts = rw e
 
-  done-says : 0 ∷ n ∷ k ∷ [] ≡ 0 ∷ length ids ∷ escape_rows base ids ∷ []
+  done-says : 0 ∷ coded.codes ∷ coded.escapes ∷ [] ≡ 0 ∷ length ids ∷ escape_rows base ids ∷ []
   done-says = sym (ap ids_coded_says e) ∙ w.answer ∙ accepted_says (coding_accepted base ids nc np ni r w.answer done-accepts)
 
-  done-codes : n ≡ length ids
+  done-codes : coded.codes ≡ length ids
   done-codes = ap (λ (says : List ℕ). says ! 1) done-says
 
-  done_escapes : k ≡ escape_rows base ids
+  done_escapes : coded.escapes ≡ escape_rows base ids
   done_escapes = ap (λ (says : List ℕ). says ! 2) done-says
 
-  pub done-parts : (n ≤ length c) × (k ≤ length p) × (k ≤ length v)
+  pub done-parts : (coded.codes ≤ length c) × (coded.escapes ≤ length p) × (coded.escapes ≤ length v)
   unfolding copied_of
   done-parts = (
     omega (arith, done-codes, used_length _ _ c nc done-accepts w.codes, tab-length (λ i. code_of base (ids ! i)) (length ids)),
@@ -123,42 +124,42 @@ module _ {base : ℕ} {ids : List ℕ} {nc np ni : ℕ} {r : CodedIds} {c p v : 
   )
 
   -- The used parts, at the lengths that the answer gives, are the coded columns.
-  pub done_used : ids_of (take n c) (take k p) (take k v) base ≡ copied_of base ids
+  pub done_used : ids_of (take coded.codes c) (take coded.escapes p) (take coded.escapes v) base ≡ copied_of base ids
   unfolding copied_of
   done_used =
       rw (
-        used_part _ _ c nc n done-accepts w.codes (tab-length _ _ ∙ sym done-codes),
-        used_part _ _ p np k done-accepts w.escape_places (sym done_escapes),
-        used_part _ _ v ni k done-accepts w.escape_ids (length-map (escapes_to base ids (length ids)) (λ i. ids ! i) ∙ sym done_escapes),
+        used_part _ _ c nc coded.codes done-accepts w.codes (tab-length _ _ ∙ sym done-codes),
+        used_part _ _ p np coded.escapes done-accepts w.escape_places (sym done_escapes),
+        used_part _ _ v ni coded.escapes done-accepts w.escape_ids (length-map (escapes_to base ids (length ids)) (λ i. ids ! i) ∙ sym done_escapes),
       )
 
   -- ROUND TRIP. Of columns that an accepted coding left, reading place i gives the id at i, for every i.
-  pub round_trip : (i : ℕ) → i < length ids → ids ! i < 2 ^ 64 → id_back (ids_of (take n c) (take k p) (take k v) base) i ≡ 0 ∷ ids ! i ∷ []
+  pub round_trip : (i : ℕ) → i < length ids → ids ! i < 2 ^ 64 → id_back (ids_of (take coded.codes c) (take coded.escapes p) (take coded.escapes v) base) i ≡ 0 ∷ ids ! i ∷ []
   round_trip i h fits = rw done_used (reads_back_lem base ids i h fits)
 
 -- ONE OUTCOME. Document 01's numbers and values tell the answers apart, and all else that a contract says is an equation.
-answer_of : List ℕ → CodedIds
-answer_of says = cond (eqb (says ! 0) 0) (Done (says ! 1) (says ! 2)) (Room (says ! 1))
+answer_of : List ℕ → Result CodedIds IdsError
+answer_of says = cond (eqb (says ! 0) 0) (Ok (record { codes = says ! 1; escapes = says ! 2 })) (Err (Room (says ! 1)))
 
-coded_of-says : (r : CodedIds) → answer_of (ids_coded_says r) ≡ r
+coded_of-says : (r : Result CodedIds IdsError) → answer_of (ids_coded_says r) ≡ r
 unfolding answer_of
-coded_of-says (Done c e) = refl
-coded_of-says (Room k) = refl
+coded_of-says (Ok coded) = refl
+coded_of-says (Err (Room k)) = refl
 
-id_of : List ℕ → CopiedId
-id_of says = cond (eqb (says ! 0) 0) (Id (says ! 1)) (cond (eqb (says ! 0) 11) (Index (says ! 1)) (Copied (says ! 1)))
+id_of : List ℕ → Result ℕ IdError
+id_of says = cond (eqb (says ! 0) 0) (Ok (says ! 1)) (cond (eqb (says ! 0) 11) (Err (Index (says ! 1))) (Err (Copied (says ! 1))))
 
-id_of_says : (r : CopiedId) → id_of (id_says r) ≡ r
+id_of_says : (r : Result ℕ IdError) → id_of (id_says r) ≡ r
 unfolding id_of
-id_of_says (Id v) = refl
-id_of_says (Index i) = refl
-id_of_says (Copied i) = refl
+id_of_says (Ok v) = refl
+id_of_says (Err (Index i)) = refl
+id_of_says (Err (Copied i)) = refl
 
-pub one-coding : {base : ℕ} {ids : List ℕ} {nc np ni : ℕ} {r r' : CodedIds} {c c' p p' v v' : List ℕ} → IdsCoding base ids nc np ni r c p v → IdsCoding base ids nc np ni r' c' p' v'
+pub one-coding : {base : ℕ} {ids : List ℕ} {nc np ni : ℕ} {r r' : Result CodedIds IdsError} {c c' p p' v v' : List ℕ} → IdsCoding base ids nc np ni r c p v → IdsCoding base ids nc np ni r' c' p' v'
     → (r ≡ r') × (c ≡ c') × (p ≡ p') × (v ≡ v')
 one-coding {r = r} {r' = r'} w w' =
     let e : r ≡ r' = sym (coded_of-says r) ∙ ap answer_of (w.answer ∙ sym w'.answer) ∙ coded_of-says r' in
     (e, rw e at w.codes ∙ sym w'.codes, rw e at w.escape_places ∙ sym w'.escape_places, rw e at w.escape_ids ∙ sym w'.escape_ids)
 
-pub one_id : (says : List ℕ) (r r' : CopiedId) → id_says r ≡ says → id_says r' ≡ says → r ≡ r'
+pub one_id : (says : List ℕ) (r r' : Result ℕ IdError) → id_says r ≡ says → id_says r' ≡ says → r ≡ r'
 one_id says r r' e e' = sym (id_of_says r) ∙ ap id_of (e ∙ sym e') ∙ id_of_says r'

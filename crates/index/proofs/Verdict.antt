@@ -1,5 +1,5 @@
 -- An answer that accepts says that nothing is refused; and from what coding leaves to its contract. Assumes nothing.
-use mathlib.Core.Path.{◌≡◌, sym, ap, ◌∙◌}
+use mathlib.Core.Path.{◌≡◌, refl, sym, ap, ◌∙◌}
 use mathlib.Core.Bool.{true, false}
 use mathlib.Core.List.{List, [], ◌∷◌}
 use Prim.Native.Nat.{ℕ}
@@ -10,8 +10,15 @@ use Rattle.columns.specs.Lists.{◌!◌}
 use Rattle.columns.specs.Columns.{accepts}
 use Rattle.columns.proofs.Written.{leaves-zeros, leaves-padded}
 use Rattle.columns.proofs.Answers.{past}
+use Rattle.std.specs.Prelude.{Result, Err}
 use Rattle.index.specs.declared.CodedIds.{CodedIds}
+use Rattle.index.specs.declared.IdsError.{IdsError}
+use Rattle.index.specs.declared.IdsError.TheVariants.{Room}
 use Rattle.index.specs.Copied.{ids_coding_says, IdsAccepted, IdsFilled, IdsEmptied, IdsCoding, ids_coded_says, escape_rows}
+
+pub refuses : (e : IdsError) → accepts (ids_coded_says (Err e)) ≡ false
+unfolding accepts
+refuses (Room k) = refl
 
 pub accepted_says : {base : ℕ} {ids : List ℕ} {nc np ni : ℕ} → IdsAccepted base ids nc np ni → ids_coding_says base ids nc np ni ≡ 0 ∷ length ids ∷ escape_rows base ids ∷ []
 unfolding ids_coding_says
@@ -26,7 +33,7 @@ module _ (base : ℕ) (ids : List ℕ) (nc np ni : ℕ) where
       let c = past (ltb ni (escape_rows base ids)) 8 _ _ b.1 in
       record { room_codes = ltb-false _ _ a.0; room_places = ltb-false _ _ b.0; room_ids = ltb-false _ _ c.0 }
 
-  module _ (r : CodedIds) (e : ids_coded_says r ≡ ids_coding_says base ids nc np ni) where
+  module _ (r : Result CodedIds IdsError) (e : ids_coded_says r ≡ ids_coding_says base ids nc np ni) where
     -- an answer that accepts: its facts, and the escapes that it gives
     pub coding_accepted : accepts (ids_coded_says r) ≡ true → IdsAccepted base ids nc np ni
     coding_accepted y = accepted (ap accepts (sym e) ∙ y)

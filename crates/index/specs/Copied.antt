@@ -1,18 +1,19 @@
 -- Copied ids (document 01, "Copied ids"): what the coded columns are, and what coding answers. Assumes nothing.
-use Rattle.std.specs.Prelude.{ℕ, ◌+◌, ◌-◌, ◌/◌, ◌≤◌, ◌≡◌, Bool, cond, List, [], ◌∷◌, map, ltb, leb, eqb, length}
+use Rattle.std.specs.Prelude.{ℕ, ◌+◌, ◌-◌, ◌/◌, ◌≤◌, ◌≡◌, Bool, cond, List, [], ◌∷◌, map, ltb, leb, eqb, length, Result, Ok, Err}
 use Rattle.std.specs.Int.Count.{count_trailing_zeros}
 use Rattle.columns.specs.Lists.{◌!◌, tab, places, all_of}
 use Rattle.columns.specs.Columns.{zeros, over, padded, leaves}
 use Rattle.index.specs.declared.CodedIds.{CodedIds}
-use Rattle.index.specs.declared.CodedIds.TheVariants.{Done, Room}
+use Rattle.index.specs.declared.IdsError.{IdsError}
+use Rattle.index.specs.declared.IdsError.TheVariants.{Room}
 -- the columns and their base, and what reading one id back answers
 pub use Rattle.index_read.specs.Back.{escaped_code, Ids, ids_of, id_says}
 unfoldable pub use Rattle.index_read.specs.Back.{whole, escape_back, id_back}
 
 -- Document 01's number and values for each answer; 0 is acceptance, and then the lengths used follow.
-abbrev pub ids_coded_says : CodedIds → List ℕ
-ids_coded_says (Done c e) = 0 ∷ c ∷ e ∷ []
-ids_coded_says (Room k) = 9 ∷ k ∷ []
+abbrev pub ids_coded_says : Result CodedIds IdsError → List ℕ
+ids_coded_says (Ok coded) = 0 ∷ coded.codes ∷ coded.escapes ∷ []
+ids_coded_says (Err (Room k)) = 9 ∷ k ∷ []
 
 -- "If id ≥ base, the distance has at least three trailing zero bits, and distance / 8 + 1 is at most 4,294,967,294", of numbers of 64 bits.
 unfoldable pub inline : ℕ → ℕ → Bool
@@ -73,7 +74,7 @@ pub record IdsEmptied (nc np ni : ℕ) (c p v : List ℕ) : Type 0 where
   pub escaped : v ≡ zeros ni
 
 -- What `code_ids` answers, r, and leaves in the three columns that it is lent: all zero after a refusal.
-pub record IdsCoding (base : ℕ) (ids : List ℕ) (nc np ni : ℕ) (r : CodedIds) (c p v : List ℕ) : Type 0 where
+pub record IdsCoding (base : ℕ) (ids : List ℕ) (nc np ni : ℕ) (r : Result CodedIds IdsError) (c p v : List ℕ) : Type 0 where
   pub answer : ids_coded_says r ≡ ids_coding_says base ids nc np ni
   pub codes : c ≡ leaves (ids_coded_says r) (copied_of base ids).codes nc
   pub escape_places : p ≡ leaves (ids_coded_says r) (copied_of base ids).places np

@@ -7,12 +7,18 @@ pub mod code;
 ghost use Rattle.std.specs.Prelude.{length};
 ghost use Rattle.index.specs.Copied.{IdsCoding};
 
-pub use index_read::{CopiedId, id_at};
+pub use index_read::{IdError, id_at};
 
-// What coding answers: the lengths used of codes and of escapes; or the refusal.
+// The lengths used of codes and of escapes.
 #[derive(Clone, Copy)]
-pub enum CodedIds {
-    Done { codes: usize, escapes: usize },
+pub struct CodedIds {
+    pub codes: usize,
+    pub escapes: usize,
+}
+
+// Why ids are not coded: a buffer, by its number, has too little room.
+#[derive(Clone, Copy)]
+pub enum IdsError {
     Room(usize),
 }
 
@@ -23,28 +29,24 @@ pub fn code_ids(
     codes: &mut [u32],
     escape_places: &mut [u64],
     escape_ids: &mut [u64],
-) -> CodedIds
+) -> Result<CodedIds, IdsError>
     ensures { IdsCoding base ids.now (length codes.old) (length escape_places.old) (length escape_ids.old) result codes.new
         escape_places.new escape_ids.new }
 {
-    let r = code::judge(
+    match code::judge(
         ids,
         base,
         codes.len(),
         escape_places.len(),
         escape_ids.len(),
-    );
-    if code::is_done(r) {
-        code::write_all(
-            ids,
-            base,
-            code::rows_of(r),
-            codes,
-            escape_places,
-            escape_ids,
-        );
-        return r;
+    ) {
+        Ok(coded) => {
+            code::write_all(ids, base, coded.escapes, codes, escape_places, escape_ids);
+            Ok(coded)
+        }
+        Err(e) => {
+            code::zero_all(codes, escape_places, escape_ids);
+            Err(e)
+        }
     }
-    code::zero_all(codes, escape_places, escape_ids);
-    r
 }

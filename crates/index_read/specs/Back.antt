@@ -1,9 +1,9 @@
 -- Copied ids (document 01, "Copied ids"): the columns, and what reading one id back answers. Assumes nothing.
-use Rattle.std.specs.Prelude.{ℕ, ◌+◌, ◌-◌, ◌*◌, ◌^◌, cond, List, [], ◌∷◌, ltb, leb, eqb, length}
+use Rattle.std.specs.Prelude.{ℕ, ◌+◌, ◌-◌, ◌*◌, ◌^◌, cond, List, [], ◌∷◌, ltb, leb, eqb, length, Result, Ok, Err}
 use Rattle.columns.specs.Lists.{◌!◌, all_of, any_of}
 use Rattle.columns.specs.Ranks.{bisect}
-use Rattle.index_read.specs.declared.CopiedId.{CopiedId}
-use Rattle.index_read.specs.declared.CopiedId.TheVariants.{Id, Index, Copied}
+use Rattle.index_read.specs.declared.IdError.{IdError}
+use Rattle.index_read.specs.declared.IdError.TheVariants.{Index, Copied}
 
 -- The copied columns, and the base that they are over.
 pub record Ids : Type 0 where
@@ -20,10 +20,10 @@ abbrev pub escaped_code : ℕ
 escaped_code = 4294967295
 
 -- Document 01's number and values for each answer; 0 is acceptance, and then the id follows.
-abbrev pub id_says : CopiedId → List ℕ
-id_says (Id v) = 0 ∷ v ∷ []
-id_says (Index i) = 11 ∷ i ∷ []
-id_says (Copied i) = 5 ∷ i ∷ []
+abbrev pub id_says : Result ℕ IdError → List ℕ
+id_says (Ok v) = 0 ∷ v ∷ []
+id_says (Err (Index i)) = 11 ∷ i ∷ []
+id_says (Err (Copied i)) = 5 ∷ i ∷ []
 
 -- Reading. "A non-zero code whose id is 0 or passes 64 bits" is COPIED at its position.
 unfoldable pub whole : ℕ → ℕ → List ℕ

@@ -9,10 +9,9 @@ ghost use Rattle.index_read.specs.Back.{id_says, ids_of, id_back};
 // The code of an id that is kept whole in the escapes.
 pub const ESCAPED: u32 = 4294967295;
 
-// What reading one id back answers.
+// Why an id cannot be read back: its place is past the end, or the code there has no id.
 #[derive(Clone, Copy)]
-pub enum CopiedId {
-    Id(u64),
+pub enum IdError {
     Index(usize),
     Copied(usize),
 }
@@ -24,15 +23,15 @@ pub fn id_at(
     escape_ids: &[u64],
     base: u64,
     i: usize,
-) -> CopiedId
+) -> Result<u64, IdError>
     ensures { id_says result ≡ id_back (ids_of codes.now escape_places.now escape_ids.now base) i }
 {
     if codes.len() <= i {
-        return CopiedId::Index(i);
+        return Err(IdError::Index(i));
     }
     let code = codes[i];
     if code == 0 {
-        return CopiedId::Id(0);
+        return Ok(0);
     }
     if code == ESCAPED {
         return read::escape_at(escape_places, escape_ids, i);

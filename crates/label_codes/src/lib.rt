@@ -14,11 +14,7 @@ use rules::Label;
 fn gap_of(index: u32, next: u32) -> u16
     ensures { result ≡ gap_of next index }
 {
-    if index < next {
-        return 0;
-    }
-    let gap = index - next;
-    if gap < 32767 { gap as u16 } else { ESCAPED }
+    index.saturating_sub(next).min(32767) as u16
 }
 
 // A label's code where an element would have the index `next` at least.
@@ -38,12 +34,9 @@ fn code_object(labels: &[u32], names: usize, table: &[u16], edge_codes: &mut [u1
     ensures { edge_codes.new ≡ over (codes_by names table.now labels.now) edge_codes.old }
 {
     let mut next = 0;
-    let mut i = 0;
-    while i < labels.len() {
-        let label = labels[i];
-        edge_codes[i] = code_of(label, next, names, table);
-        next = after(label, next);
-        i += 1;
+    for (i, label) in labels.iter().enumerate() {
+        edge_codes[i] = code_of(*label, next, names, table);
+        next = after(*label, next);
     }
 }
 
@@ -59,12 +52,10 @@ pub fn code_objects(
     ensures { edge_codes.new ≡ over (all_by names table.now offsets.now labels.now (length offsets.now - 1)) edge_codes.old }
 {
     let objects = offsets.len() - 1;
-    let mut o = 0;
-    while o < objects {
+    for o in 0..objects {
         let from = offsets[o] as usize;
         let to = offsets[o + 1] as usize;
         code_object(&labels[from..to], names, table, &mut edge_codes[from..to]);
-        o += 1;
     }
 }
 
@@ -72,7 +63,7 @@ pub fn code_objects(
 fn rows_of(code: u16) -> usize
     ensures { result ≡ one (is_escaped code) }
 {
-    if code % ELEMENT == ESCAPED { 1 } else { 0 }
+    usize::from(code % ELEMENT == ESCAPED)
 }
 
 // How many of one object's labels are escaped.
@@ -82,12 +73,9 @@ fn count_object(labels: &[u32], names: usize, table: &[u16]) -> usize
 {
     let mut rows = 0;
     let mut next = 0;
-    let mut i = 0;
-    while i < labels.len() {
-        let label = labels[i];
-        rows += rows_of(code_of(label, next, names, table));
-        next = after(label, next);
-        i += 1;
+    for label in labels {
+        rows += rows_of(code_of(*label, next, names, table));
+        next = after(*label, next);
     }
     rows
 }
@@ -99,12 +87,10 @@ pub fn count_escapes(offsets: &[u64], labels: &[u32], names: usize, table: &[u16
 {
     let objects = offsets.len() - 1;
     let mut rows = 0;
-    let mut o = 0;
-    while o < objects {
+    for o in 0..objects {
         let start = offsets[o] as usize;
         let end = offsets[o + 1] as usize;
         rows += count_object(&labels[start..end], names, table);
-        o += 1;
     }
     rows
 }
@@ -121,15 +107,11 @@ pub fn write_escapes(
     ensures { Escapes edge_codes.now labels.now escape_at.old escape_label.old result escape_at.new escape_label.new }
 {
     let mut k = 0;
-    let mut e = 0;
-    while e < labels.len() {
+    for (e, label) in labels.iter().enumerate() {
         if edge_codes[e] % ELEMENT == ESCAPED {
             escape_at[k] = e as u64;
-            escape_label[k] = labels[e];
+            escape_label[k] = *label;
             k += 1;
-            e += 1;
-        } else {
-            e += 1;
         }
     }
     k

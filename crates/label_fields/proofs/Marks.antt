@@ -7,18 +7,21 @@ use mathlib.Core.Bool.{Bool, true, false, cond}
 use mathlib.Core.List.{List, [], ◌∷◌, ◌++◌, map-append, append_assoc, foldl-append}
 use mathlib.Core.Option.{Option, none, some}
 use lib.Dec.{eqb}
-use lib.ListN.{length, length-set}
+use lib.ListN.{length, take, length-set, length-map}
 use lib.Seq.{get_or-set_same, get_or-set_other}
 use borrow.Author.Tests.{eqb-true, eqb-false, eq-eqb, ne_eqb}
-use Rattle.columns.specs.Lists.{◌!◌, find, next, found}
+use Rattle.columns.specs.Lists.{◌!◌, find, next, found, part, places}
+use Rattle.std.specs.List.{count_by}
 use Rattle.columns.proofs.Lists.{tab_more, places-hit, places_miss}
 use Rattle.columns.proofs.Folds.{fold-length}
 use Rattle.columns.proofs.Parts.{places_ext}
+use Rattle.columns.proofs.Sums.{part_at}
 use Rattle.rules.specs.Types.{loader_label}
 use Rattle.rules.specs.Labels.{occurring}
 use Rattle.labels.specs.Coding.{table_place}
 use Rattle.labels.specs.Fields.{table_label, slots_named, is_object, statics_named, Naming, named_by}
 use Rattle.label_fields.specs.Marks.{mark_label, mark_labels, is_marked, marked_labels}
+use Rattle.labels.proofs.Counted.{count-places}
 use Rattle.labels.proofs.Table.{slot-label, label-slot, label-places}
 
 -- t₀ has become t, where the names of a list are marked; and some names more
@@ -34,17 +37,12 @@ marking_more {names} {t₀} {xs} {t} ys {zs} {u} w e m =
     let is : u ≡ mark_labels names t₀ zs = m ∙ ap (λ (z : List ℕ). mark_labels names z ys) w.holds ∙ sym (foldl-append (mark_label names) t₀ xs ys) ∙ ap (mark_labels names t₀) (sym e) in
     record { holds = is; same = ap length is ∙ fold-length (mark_label names) (λ t l. length-set t (table_place names l) 1) t₀ zs }
 
-pub marking-end : (F : ℕ → List ℕ) {names : ℕ} {t₀ t : List ℕ} {i : ℕ} (n : ℕ) → Marking names t₀ (F i) t → i ≡ n → t ≡ mark_labels names t₀ (F n)
-marking-end F {names} {t₀} n w e = w.holds ∙ ap (λ (k : ℕ). mark_labels names t₀ (F k)) e
+-- one slot more, of a range that starts at `from`
+pub slots_more : (names : List ℕ) (from to i : ℕ) → i < to - from → slots_named names from (i + 1) ≡ slots_named names from i ++ (part names from to ! i ∷ [])
+slots_more names from to i l = rw (part_at names from to i l) (tab_more (λ k. names ! (from + k)) i)
 
 -- the names up to the place behind i, of a range that starts at `from`
 module _ (names : List ℕ) (from i : ℕ) (low : from ≤ i) where
-  pub slots_more : slots_named names from (i + 1 - from) ≡ slots_named names from (i - from) ++ (names ! i ∷ [])
-  slots_more =
-      let e : i + 1 - from ≡ i - from + 1 = omega arith in
-      let at : from + (i - from) ≡ i = omega arith in
-      rw e (tab_more (λ k. names ! (from + k)) (i - from) ∙ rw at)
-
   module _ (types : List ℕ) where
     object_at : (b : Bool) → eqb (types ! i) 2 ≡ b → is_object types from (i - from) ≡ b
     object_at b h = let at : from + (i - from) ≡ i = omega arith in rw at h
@@ -103,3 +101,8 @@ marked_occurring names t ls few long zero-at =
 
     same : (i : ℕ) → i ≤ names → is_marked (mark_labels names t ls) i ≡ found (find ls (table_label names i))
     same i h = rw (marks-at names i few h t ls (omega arith), zero-at i h) (one_is (found (find ls (table_label names i))))
+
+-- how many labels are marked, counted place by place
+pub marks-count : (names : ℕ) (table : List ℕ) → names + 1 ≤ length table → count_by (λ x. eqb x 1) (take (names + 1) table) ≡ length (marked_labels names table)
+unfolding marked_labels
+marks-count names table l = count-places (λ x. eqb x 1) table (names + 1) l ∙ sym (length-map (places (is_marked table) (names + 1)) (table_label names))

@@ -1,7 +1,7 @@
 -- The listed fields by steps over the code table: a table without codes, and names that are marked in it. Where those of a list were marked in a cleared table
 -- they are the rule `listed` of `rules/specs/Labels.antt`. Assumes nothing.
 use Rattle.std.specs.Prelude.{ℕ, ◌+◌, Bool, eqb, set}
-use mathlib.Core.List.{List, [], ◌∷◌, map, foldl}
+use mathlib.Core.List.{List, map, foldl}
 use Rattle.columns.specs.Lists.{◌!◌, tab, places}
 use Rattle.labels.specs.Coding.{table_place}
 use Rattle.labels.specs.Fields.{table_label}

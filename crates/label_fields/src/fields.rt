@@ -1,5 +1,5 @@
 // Which fields have codes, and the code table.
-ghost use Rattle.std.specs.Prelude.{◌≡◌, ◌∷◌, ◌+◌, ◌-◌, ◌≤◌, ◌<◌, length};
+ghost use Rattle.std.specs.Prelude.{◌≡◌, ◌∷◌, ◌+◌, ◌-◌, ◌≤◌, length};
 ghost use Rattle.columns.specs.Columns.{over};
 ghost use Rattle.columns.specs.Loans.{now_of};
 ghost use Rattle.rules.specs.Types.{loader_label};
@@ -16,11 +16,7 @@ fn clear_table(table: &mut [u16], n: usize)
     requires { n ≤ length table.old }
     ensures { table.new ≡ over (uncoded n) table.old }
 {
-    let mut i = 0;
-    while i < n {
-        table[i] = 32767;
-        i += 1;
-    }
+    table[..n].fill(32767);
 }
 
 // The code table of the fields: the code of each is its place among them. From the last to the first, so that the first place counts.
@@ -30,9 +26,7 @@ pub fn write_table(fields: &[u32], names: usize, table: &mut [u16])
     ensures { table.new ≡ over (code_table names fields.now) table.old }
 {
     clear_table(table, names + 2);
-    let mut k = fields.len();
-    while 0 < k {
-        k -= 1;
+    for k in (0..fields.len()).rev() {
         table[slot_of(fields[k], names)] = k as u16;
     }
 }
@@ -50,10 +44,8 @@ pub fn mark_slots(slot_labels: &[u32], from: usize, to: usize, names: usize, tab
     requires { (from ≤ to) × (to ≤ length slot_labels.now) × Room names table.old }
     ensures { table.new ≡ mark_labels names table.old (slots_named slot_labels.now from (to - from)) }
 {
-    let mut i = from;
-    while i < to {
-        mark_label(slot_labels[i], names, table);
-        i += 1;
+    for label in &slot_labels[from..to] {
+        mark_label(*label, names, table);
     }
 }
 
@@ -69,13 +61,9 @@ fn mark_statics(
     requires { (from ≤ to) × (to ≤ length static_names.now) × (to ≤ length static_types.now) × Room names table.old }
     ensures { table.new ≡ mark_labels names table.old (statics_named static_names.now static_types.now from (to - from)) }
 {
-    let mut i = from;
-    while i < to {
+    for i in from..to {
         if static_types[i] == 2 {
             mark_label(static_names[i], names, table);
-            i += 1;
-        } else {
-            i += 1;
         }
     }
 }
@@ -98,15 +86,13 @@ pub fn mark_named(
         table.new ≡ mark_labels names table.old (loader_label ∷ named_by columns classes) }
 {
     mark_label(Label::LOADER, names, table);
-    let mut c = 0;
-    while c < classes {
+    for c in 0..classes {
         let from = columns::index(slot_starts[c]);
         let to = columns::index(slot_ends[c]);
         mark_slots(slot_labels, from, to, names, table);
         let first = columns::index(static_starts[c]);
         let last = columns::index(static_ends[c]);
         mark_statics(static_names, static_types, first, last, names, table);
-        c += 1;
     }
 }
 
@@ -115,17 +101,7 @@ pub fn count_marked(table: &[u16], names: usize) -> usize
     requires { Room names table.now }
     ensures { result ≡ length (marked_labels names table.now) }
 {
-    let mut k = 0;
-    let mut i = 0;
-    while i <= names {
-        if table[i] == 1 {
-            k += 1;
-            i += 1;
-        } else {
-            i += 1;
-        }
-    }
-    k
+    table[..names + 1].iter().filter(|mark| **mark == 1).count()
 }
 
 // The labels that are marked: names rising, then the loader.
@@ -134,14 +110,10 @@ pub fn write_marked(table: &[u16], names: usize, fields: &mut [u32])
     ensures { fields.new ≡ over (marked_labels names table.now) fields.old }
 {
     let mut k = 0;
-    let mut i = 0;
-    while i <= names {
-        if table[i] == 1 {
+    for (i, mark) in table[..names + 1].iter().enumerate() {
+        if *mark == 1 {
             fields[k] = label_at(i, names);
             k += 1;
-            i += 1;
-        } else {
-            i += 1;
         }
     }
 }

@@ -27,7 +27,7 @@ pub fn count_fields(
     ensures { let columns = name_columns now_of slot_starts slot_ends static_starts static_ends slot_labels static_names static_types in
         result ≡ length (fields_of names (named_by columns classes) labels.now) }
 {
-    columns::zero_u16(table, 0);
+    columns::zero(table, 0);
     fields::mark_named(
         classes,
         slot_starts,
@@ -44,7 +44,7 @@ pub fn count_fields(
     if listed <= 32767 {
         return listed;
     }
-    columns::zero_u16(table, 0);
+    columns::zero(table, 0);
     fields::mark_slots(labels, 0, labels.len(), names, table);
     label_ranks::coded_of(fields::count_marked(table, names))
 }
@@ -73,7 +73,7 @@ pub fn write_fields(
     ensures { let columns = name_columns now_of slot_starts slot_ends static_starts static_ends slot_labels static_names static_types in
         Chosen (fields_of names (named_by columns classes) labels.now) fields.old result fields.new }
 {
-    columns::zero_u16(table, 0);
+    columns::zero(table, 0);
     fields::mark_named(
         classes,
         slot_starts,

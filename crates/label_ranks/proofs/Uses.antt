@@ -1,15 +1,14 @@
 -- Uses that are counted by place: one label after the other, how many at most, and how often each label occurs. Assumes nothing.
 use Prim.Native.Nat.{ℕ, ◌+◌, ◌≤◌, ◌<◌}
 use native.Mathlib.Nat.{add-zero}
-use native.Mathlib.Numerals.{add-one}
 use native.Mathlib.Omega.{arith}
 use mathlib.Core.Path.{◌≡◌, refl, sym, ap, ◌∙◌}
 use mathlib.Core.Logic.{⊎_elim}
 use mathlib.Core.Bool.{Bool, true, false}
-use mathlib.Core.List.{List, [], ◌∷◌, ◌++◌}
+use mathlib.Core.List.{List, [], ◌∷◌}
 use lib.Dec.{eqb}
 use lib.ListN.{length, take, length-set, length-take}
-use lib.Seq.{get_or-set_same, get_or-set_other, take-suc, set_out}
+use lib.Seq.{get_or-set_same, get_or-set_other, set_out}
 use borrow.Author.Tests.{eqb-true, eqb-false}
 use Rattle.columns.specs.Lists.{◌!◌, one, count}
 use Rattle.columns.specs.Columns.{zeros}

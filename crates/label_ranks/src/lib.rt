@@ -10,15 +10,13 @@ ghost use Rattle.label_ranks.specs.Keys.{uses, key_of, key_labels, Keyed, Of32Bi
 use labels::code::{label_at, slot_of};
 
 // How often each label occurs on the edges, by its place in the table.
+#[tactic(auto, using(labels::proofs::Table::slot_within))]
 pub fn count_uses(labels: &[u32], names: usize, counting: &mut [u64])
     requires { Room names counting.old × (counting.old ≡ zeros (length counting.old)) }
     ensures { counting.new ≡ uses names counting.old labels.now }
 {
-    let mut i = 0;
-    while i < labels.len() {
-        let at = slot_of(labels[i], names);
-        counting[at] = counting[at] + 1;
-        i += 1;
+    for label in labels {
+        counting[slot_of(*label, names)] += 1;
     }
 }
 
@@ -27,7 +25,7 @@ fn key_of(count: u64, label: u32) -> u64
     requires { count ≤ 4294967295 }
     ensures { result ≡ key_of count label }
 {
-    (4294967295 - count) * 4294967296 + columns::wide(label)
+    (4294967295 - count) * 4294967296 + u64::from(label)
 }
 
 // The keys of the labels that occur; the answer is how many they are.
@@ -36,15 +34,11 @@ fn write_keys(counting: &[u64], names: usize, ranking: &mut [u64]) -> usize
     ensures { Keyed names counting.now ranking.old result ranking.new }
 {
     let mut k = 0;
-    let mut i = 0;
-    while i <= names {
+    for i in 0..names + 1 {
         let count = counting[i];
         if 0 < count {
             ranking[k] = key_of(count, label_at(i, names));
             k += 1;
-            i += 1;
-        } else {
-            i += 1;
         }
     }
     k
@@ -55,10 +49,8 @@ fn write_ranked(ranking: &[u64], n: usize, fields: &mut [u32])
     requires { (n ≤ length ranking.now) × (n ≤ length fields.old) }
     ensures { fields.new ≡ over (key_labels ranking.now n) fields.old }
 {
-    let mut i = 0;
-    while i < n {
+    for i in 0..n {
         fields[i] = (ranking[i] % 4294967296) as u32;
-        i += 1;
     }
 }
 
@@ -66,7 +58,7 @@ fn write_ranked(ranking: &[u64], n: usize, fields: &mut [u32])
 pub fn coded_of(used: usize) -> usize
     ensures { result ≡ min 32767 used }
 {
-    if used < 32767 { used } else { 32767 }
+    used.min(32767)
 }
 
 // The fields that have codes where more than 32,767 are listed: the most used on the edges; the answer is how many they are.
@@ -80,10 +72,10 @@ pub fn rank_fields(
     requires { Room names counting.old × Room names ranking.old × (length labels.now ≤ 4294967295) × (length (first names labels.now) ≤ length fields.old) }
     ensures { Chosen (first names labels.now) fields.old result fields.new }
 {
-    columns::zero_u64(counting, 0);
+    columns::zero(counting, 0);
     count_uses(labels, names, counting);
     let used = write_keys(counting, names, ranking);
-    sort64::sort_u64(&mut ranking[0..used]);
+    sort::sort(&mut ranking[0..used]);
     let n = coded_of(used);
     write_ranked(ranking, n, fields);
     n

@@ -1,8 +1,9 @@
 pub mod Table
 pub mod Escapes
-pub mod Codes
+pub mod Coded
 pub mod Walk
 pub mod Back
 pub mod Occurring
 pub mod Listed
 pub mod Theorems
+pub mod Counted

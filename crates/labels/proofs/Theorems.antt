@@ -15,15 +15,19 @@ use Rattle.rules.specs.Parts.{degree}
 use Rattle.rules.specs.Questions.{coarse, label_reads}
 use Rattle.rules.proofs.Meets.{Meets}
 use Rattle.rules.proofs.Codes.{own_at, codes-count, read-labels, coarse-code, label-good}
-use Rattle.labels.specs.declared.EdgeLabel.{EdgeLabel}
-use Rattle.labels.specs.declared.EdgeLabel.TheVariants.{Is, Bad}
+use Rattle.std.specs.Prelude.{Result, Ok, Err}
+use Rattle.rules.specs.declared.Label.{Label}
+use Rattle.labels.specs.declared.Unread.{Unread}
 use Rattle.labels.specs.Coding.{LabelsLaid}
 use Rattle.labels.specs.Reading.{read_says, coded_of, coarse_back, exact_back}
 use Rattle.labels.proofs.Back.{exact_back_lem, coarse-back}
 
-says_is : (r : EdgeLabel) (l : ℕ) → read_says r ≡ l ∷ [] → r ≡ Is l
-says_is (Is x) l e = let z : x ≡ l = cc in ap Is z
-says_is Bad l e = let z : ◌≡◌ {A = ℕ} 0 1 = cc in absurd (omega arith)
+abbrev pub label : ℕ → Label
+label n = record { 0 = n }
+
+says_is : (r : Result Label Unread) (l : ℕ) → read_says r ≡ l ∷ [] → r ≡ Ok (label l)
+says_is (Ok x) l e = let z : x.0 ≡ l = cc in ap (λ (n : ℕ). Ok (label n)) z
+says_is (Err x) l e = let z : ◌≡◌ {A = ℕ} 0 1 = cc in absurd (omega arith)
 
 -- Columns that meet PARTS, coded over any fields that have codes, and what the coding left of them.
 module _ (names : ℕ) (p : Parts) (law : Meets names p) (small : (e : ℕ) → p.labels ! e < 4294967296) (fields : List ℕ) (few : length fields ≤ 32767) where
@@ -67,8 +71,8 @@ module _ (names : ℕ) (p : Parts) (law : Meets names p) (small : (e : ℕ) → 
           ∙ ap (λ (x : ℕ). x ∷ []) (coarse-code d e k (reads k m) ∙ ap coarse (read-labels names p law fields few o k h m))
 
       -- an answer that meets the contract of `exact`, or of `coarse`, over the used parts is the label
-      pub exact_label : (k : ℕ) (r : EdgeLabel) → k < degree p.offsets o → read_says r ≡ exact_back left e k → r ≡ Is (p.labels ! (e + k))
+      pub exact_label : (k : ℕ) (r : Result Label Unread) → k < degree p.offsets o → read_says r ≡ exact_back left e k → r ≡ Ok (label (p.labels ! (e + k)))
       exact_label k r m s = says_is r _ (s ∙ ap (λ (z : Coded). exact_back z e k) is_coded ∙ exact_d k m)
 
-      pub coarse_label : (k : ℕ) (r : EdgeLabel) → k < degree p.offsets o → read_says r ≡ coarse_back left (e + k) → r ≡ Is (coarse (p.labels ! (e + k)))
+      pub coarse_label : (k : ℕ) (r : Result Label Unread) → k < degree p.offsets o → read_says r ≡ coarse_back left (e + k) → r ≡ Ok (label (coarse (p.labels ! (e + k))))
       coarse_label k r m s = says_is r _ (s ∙ ap (λ (z : Coded). coarse_back z (e + k)) is_coded ∙ coarse-d k m)

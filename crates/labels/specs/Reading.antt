@@ -1,20 +1,24 @@
 -- Reading labels back from columns that may hold anything: a label, or nothing where an entry cannot be read back. Assumes nothing.
-use Rattle.std.specs.Prelude.{ℕ, zero, suc, ◌+◌, ◌-◌, cond, not, List, [], ◌∷◌, eqb, ltb, leb, length}
+use Rattle.std.specs.Prelude.{Result, Ok, Err, ℕ, zero, suc, ◌+◌, ◌-◌, cond, not, List, [], ◌∷◌, eqb, ltb, leb, length}
 use Rattle.std.specs.Bool.{beq}
 use Rattle.columns.specs.Lists.{◌!◌, all_of}
 use Rattle.columns.specs.Ranks.{bisect}
 use Rattle.rules.specs.Types.{array_element_label, is_element}
 use Rattle.rules.specs.Labels.{Coded, after, is_escaped}
-use Rattle.labels.specs.declared.EdgeLabel.{EdgeLabel}
-use Rattle.labels.specs.declared.EdgeLabel.TheVariants.{Is, Bad}
+use Rattle.rules.specs.declared.Label.{Label}
+use Rattle.labels.specs.declared.Codes.{Codes}
+use Rattle.labels.specs.declared.Unread.{Unread}
 
 -- the label that an answer gives, or none
-abbrev pub read_says : EdgeLabel → List ℕ
-read_says (Is l) = l ∷ []
-read_says Bad = []
+abbrev pub read_says : Result Label Unread → List ℕ
+read_says (Ok l) = l.0 ∷ []
+read_says (Err e) = []
 
 abbrev pub coded_of : List ℕ → List ℕ → List ℕ → List ℕ → Coded
 coded_of c f a l = record { codes = c; fields = f; escape_at = a; escape_label = l }
+
+abbrev pub coded_in : Codes → Coded
+coded_in c = record { codes = c.codes.now; fields = c.fields.now; escape_at = c.escape_at.now; escape_label = c.escape_label.now }
 
 -- "Every .. 0x7FFF and 0xFFFF has its row (.. with a field's and an element's label)": the row where bisection ends, if it is this edge's.
 unfoldable pub row_back : List ℕ → List ℕ → ℕ → ℕ → ℕ → List ℕ
@@ -31,9 +35,12 @@ unfoldable pub code_back : List ℕ → List ℕ → List ℕ → ℕ → ℕ �
 code_back fields at ls e n c =
     cond (is_escaped c) (row_back at ls e c (bisect at e)) (cond (leb 32768 c) (element_back (n + (c - 32768))) (field_back fields c))
 
--- the label of the k-th edge of the object whose edges begin at e, where n is expected
+-- the label of the edge e, where n is expected; of the k-th edge of the object whose edges begin at e
+abbrev pub read_back : Coded → ℕ → ℕ → List ℕ
+read_back d e n = code_back d.fields d.escape_at d.escape_label e n (d.codes ! e)
+
 abbrev pub step_back : Coded → ℕ → ℕ → ℕ → List ℕ
-step_back d e k n = code_back d.fields d.escape_at d.escape_label (e + k) n (d.codes ! (e + k))
+step_back d e k n = read_back d (e + k) n
 
 -- What is expected behind the first k edges: nothing where one of them cannot be read.
 abbrev pub next_of : ℕ → List ℕ → List ℕ

@@ -8,12 +8,18 @@ pub mod read;
 ghost use Rattle.std.specs.Prelude.{◌≡◌, ◌+◌, ◌≤◌};
 ghost use Rattle.rules.specs.Types.{loader_label};
 
-// What reading one label back answers.
+// The labels of edges as they are kept: a code for each edge, the fields that have codes, and the escapes, by edge.
 #[derive(Clone, Copy)]
-pub enum EdgeLabel {
-    Is(u32),
-    Bad,
+pub struct Codes<'a> {
+    pub codes: &'a [u16],
+    pub fields: &'a [u32],
+    pub escape_at: &'a [u64],
+    pub escape_label: &'a [u32],
 }
+
+// A label that cannot be read back.
+#[derive(Clone, Copy)]
+pub struct Unread;
 
 // The need of the code table, and of each column of buffer 9: a place for each name, for the loader, and for any other label.
 pub fn count_places(names: usize) -> usize

@@ -6,11 +6,11 @@ use Prim.Native.Nat.{ℕ, ◌+◌, ◌≤◌, ◌<◌, zero-le}
 use native.Mathlib.Omega.{arith}
 use lib.ListN.{length}
 use Rattle.columns.specs.Lists.{◌!◌}
-use Rattle.columns.specs.Ranks.{Rises, rank, Ranked}
+use Rattle.columns.specs.Ranks.{rank, Ranked}
 use Rattle.columns.proofs.Lists.{lt_or_ge}
 use Rattle.columns.proofs.Ranks.{rank_within, rank_below, rank_above, bisect-rank, bisect-found}
 use Rattle.columns.proofs.Search.{find_at, rank-missing}
-use Rattle.lookup.specs.declared.Found.TheVariants.{At, Missing}
+use Rattle.std.specs.Prelude.{Ok, Err}
 use Rattle.lookup.specs.Lookup.{lookup_of, Sought, Held}
 
 pub held_all : (xs : List ℕ) (x : ℕ) → Held xs x 0 (length xs)
@@ -46,14 +46,14 @@ ranked-at xs x m l e =
       ranked = λ rise. sym (bisect-found xs m rise l) ∙ bisect-rank xs (xs ! m) rise ∙ ap (rank xs) e;
     }
 
-pub sought_at : {xs : List ℕ} {x k : ℕ} → k < length xs → xs ! k ≡ x → Sought xs x (At k)
+pub sought_at : {xs : List ℕ} {x k : ℕ} → k < length xs → xs ! k ≡ x → Sought xs x (Ok k)
 unfolding lookup_of
 sought_at {xs = xs} {x = x} {k = k} l e = record { stands = (l, e); sought = λ rise. rw (find_at xs x k rise l e) }
 
-pub sought_missing : {xs : List ℕ} {x k : ℕ} → Ranked xs x k → (k < length xs → xs ! k ≡ x → ⊥) → Sought xs x (Missing k)
+pub sought_missing : {xs : List ℕ} {x k : ℕ} → Ranked xs x k → (k < length xs → xs ! k ≡ x → ⊥) → Sought xs x (Err k)
 unfolding lookup_of
 sought_missing {xs = xs} {x = x} {k = k} r no-at =
     record {
       stands = r.within;
-      sought = λ rise. let e = r.ranked rise in rw (rank-missing xs x rise (rw e at no-at)) (ap Missing e);
+      sought = λ rise. let e = r.ranked rise in rw (rank-missing xs x rise (rw e at no-at)) (ap Err e);
     }

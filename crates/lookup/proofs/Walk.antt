@@ -14,7 +14,7 @@ use Rattle.columns.specs.Ranks.{rank}
 use Rattle.columns.proofs.Ranks.{rank_within}
 use Rattle.columns.proofs.Sums.{sum-append}
 use Rattle.columns.proofs.Search.{find_first, find_none}
-use Rattle.lookup.specs.declared.Found.TheVariants.{At, Missing}
+use Rattle.std.specs.Prelude.{Ok, Err}
 use Rattle.lookup.specs.Lookup.{lookup_of}
 
 -- none of the first i ids is x, and so many of them are below it
@@ -43,10 +43,10 @@ module _ {xs : List ℕ} {x below i : ℕ} (w : PassedBy xs x below i) where
   pub passed_few : below ≤ i
   passed_few = omega (arith, w.counted, rank_within (take i xs) x, length-take-le i xs w.inside)
 
-  pub passed-at : i < length xs → xs ! i ≡ x → At i ≡ lookup_of xs x
+  pub passed-at : i < length xs → xs ! i ≡ x → Ok i ≡ lookup_of xs x
   unfolding lookup_of
   passed-at l e = rw (find_first xs x i l e w.none)
 
-  pub passed_all : length xs ≤ i → Missing below ≡ lookup_of xs x
+  pub passed_all : length xs ≤ i → Err below ≡ lookup_of xs x
   unfolding lookup_of
   passed_all l = rw (find_none xs x (λ p k. w.none p (omega arith)), w.counted, take_all i xs l)

@@ -1,53 +1,34 @@
 // The place of an id in a column of ids: by a walk from the front, and on a column that rises by a search that starts from a guess.
 #![tactic(auto)]
 
-ghost use Rattle.std.specs.Prelude.{◌≡◌, ltb, length};
-ghost use Rattle.columns.specs.Lists.{one};
+ghost use Rattle.std.specs.Prelude.{◌≡◌, length};
 ghost use Rattle.columns.specs.Ranks.{Ranked};
 ghost use Rattle.lookup.specs.Lookup.{lookup_of, Sought, Held};
 
-// Where the id stands first; or how many ids are below it, which on a column that rises is where it would stand.
-#[derive(Clone, Copy)]
-pub enum Found {
-    At(usize),
-    Missing(usize),
-}
-
-// 1 for an id below the one sought: a call in the place of a branch, so that the walk has one way on.
-fn one_below(a: u64, id: u64) -> usize
-    ensures { result ≡ one (ltb a id) }
-{
-    if a < id { 1 } else { 0 }
-}
-
-// A walk from the front, on any column.
-pub fn find_plain(ids: &[u64], id: u64) -> Found
+// A walk from the front, on any column: where the id stands first; or, as an error, how many ids are below it, which on a column that rises is where it
+// would stand.
+pub fn find_plain(ids: &[u64], id: u64) -> Result<usize, usize>
     ensures { result ≡ lookup_of ids.now id }
 {
     let mut below: usize = 0;
-    let mut i = 0;
-    while i < ids.len() {
-        if ids[i] == id {
-            return Found::At(i);
+    for (i, x) in ids.iter().enumerate() {
+        if *x == id {
+            return Ok(i);
         }
-        below += one_below(ids[i], id);
-        i += 1;
+        below += usize::from(*x < id);
     }
-    Found::Missing(below)
+    Err(below)
 }
 
 // The same on a column that rises, at the cost of `near`.
-pub fn find_sorted(ids: &[u64], id: u64, guess: usize) -> Found
+pub fn find_sorted(ids: &[u64], id: u64, guess: usize) -> Result<usize, usize>
     ensures { Sought ids.now id result }
 {
     let k = near(ids, id, guess);
-    if ids.len() <= k {
-        return Found::Missing(k);
+    if k < ids.len() && ids[k] == id {
+        return Ok(k);
     }
-    if ids[k] == id {
-        return Found::At(k);
-    }
-    Found::Missing(k)
+    Err(k)
 }
 
 // How many ids of a column that rises are below the id, from any guess: for one that is right one look at the column, for one that is d places off

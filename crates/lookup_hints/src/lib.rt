@@ -7,12 +7,12 @@ ghost use Rattle.std.specs.Prelude.{◌≡◌, ◌+◌, ◌*◌, ◌%◌, ◌≤
 ghost use Rattle.lookup.specs.Lookup.{Sought};
 ghost use Rattle.lookup_hints.specs.Hints.{bit_count, scaled_bits, scale_of, step_of, hint_at, with_hint, hints_of};
 
-use lookup::{Found, find_sorted};
+use lookup::find_sorted;
 
 fn bits_of(n: u64) -> u32
     ensures { result ≡ bit_count n }
 {
-    64 - u64::leading_zeros(n)
+    64 - n.leading_zeros()
 }
 
 // To how many bits a distance is scaled: the lower 16 are steps in a bucket, the others the bucket, and the column has a pair for each and one more.
@@ -33,7 +33,7 @@ fn bits_for(room: usize) -> u32
 pub fn scale(ids: &[u64], room: usize) -> u32
     ensures { result ≡ scale_of ids.now room }
 {
-    if ids.len() == 0 {
+    if ids.is_empty() {
         return 0;
     }
     let first = ids[0];
@@ -87,7 +87,7 @@ fn put(short: &mut [u16], bucket: usize, place: usize)
 fn joined(low: u16, high: u16) -> u32
     ensures { result ≡ low + high * 65536 }
 {
-    low as u32 + high as u32 * 65536
+    u32::from(low) + u32::from(high) * 65536
 }
 
 fn hint(short: &[u16], bucket: usize) -> u32
@@ -102,9 +102,7 @@ pub fn mark(ids: &[u64], short: &mut [u16])
     ensures { short.new ≡ hints_of ids.now short.old }
 {
     let scale = scale(ids, short.len());
-    let mut i = ids.len();
-    while 0 < i {
-        i -= 1;
+    for i in (0..ids.len()).rev() {
         put(short, step_of(ids[i], ids[0], scale) / 65536, i);
     }
 }
@@ -113,7 +111,7 @@ pub fn mark(ids: &[u64], short: &mut [u16])
 fn ahead(count: u32, part: u16) -> usize
     ensures { result ≤ count }
 {
-    (count as u64 * part as u64 / 65536) as usize
+    (u64::from(count) * u64::from(part) / 65536) as usize
 }
 
 // The place by proportion between the first ids of a bucket and of the next, less what `over_lower` makes good.
@@ -123,32 +121,21 @@ fn between(low: u32, high: u32, part: u16) -> usize
     if high <= low {
         return columns::index(low);
     }
-    let place = columns::index(low) + ahead(high - low, part);
-    if place < 3 {
-        return 0;
-    }
-    place - 3
-}
-
-fn below(a: u64, id: u64) -> usize
-    ensures { result ≤ 1 }
-{
-    if a < id { 1 } else { 0 }
+    (columns::index(low) + ahead(high - low, part)).saturating_sub(3)
 }
 
 // Over those of the next six ids that are below the id sought, without a branch that could be foreseen wrongly.
 fn over_lower(ids: &[u64], id: u64, at: usize) -> usize
     ensures { result ≤ max at (length ids.now) }
 {
-    if ids.len() < 6 {
+    if ids.len() < 6 || ids.len() - 6 < at {
         return at;
     }
-    if ids.len() - 6 < at {
-        return at;
+    let mut place = at;
+    for x in &ids[at..at + 6] {
+        place += usize::from(*x < id);
     }
-    let near = below(ids[at], id) + below(ids[at + 1], id) + below(ids[at + 2], id);
-    let far = below(ids[at + 3], id) + below(ids[at + 4], id) + below(ids[at + 5], id);
-    at + near + far
+    place
 }
 
 fn part_of(step: usize) -> u16
@@ -160,10 +147,7 @@ fn part_of(step: usize) -> u16
 fn guess(ids: &[u64], id: u64, short: &[u16], scale: u32) -> usize
     ensures { result ≤ max (length ids.now) 4294967295 }
 {
-    if ids.len() == 0 {
-        return 0;
-    }
-    if short.len() < 4 {
+    if ids.is_empty() || short.len() < 4 {
         return 0;
     }
     let step = step_of(id, ids[0], scale);
@@ -179,14 +163,12 @@ fn guess(ids: &[u64], id: u64, short: &[u16], scale: u32) -> usize
 }
 
 // The lookup on a column that rises, from its hint: where the hints are the column's own, few looks at the ids, most of them at neighbours.
-pub fn find_hinted(ids: &[u64], id: u64, short: &[u16], scale: u32) -> Found
+pub fn find_hinted(ids: &[u64], id: u64, short: &[u16], scale: u32) -> Result<usize, usize>
     ensures { Sought ids.now id result }
 {
     let at = guess(ids, id, short, scale);
-    if at < ids.len() {
-        if ids[at] == id {
-            return Found::At(at);
-        }
+    if at < ids.len() && ids[at] == id {
+        return Ok(at);
     }
     find_sorted(ids, id, at)
 }

@@ -1,13 +1,12 @@
 -- Uses counted up to 65,535 by place: one label after the other, and what they come to. Assumes nothing.
 use Prim.Native.Nat.{ℕ, ◌+◌, ◌≤◌, ◌<◌, min}
-use native.Mathlib.Numerals.{add-one}
 use native.Mathlib.Omega.{arith}
 use mathlib.Core.Path.{◌≡◌, refl, sym, ap, ◌∙◌}
 use mathlib.Core.Bool.{Bool, true, false}
-use mathlib.Core.List.{List, [], ◌∷◌, ◌++◌}
+use mathlib.Core.List.{List, [], ◌∷◌}
 use lib.Dec.{eqb}
-use lib.ListN.{length, take, length-set, length-replicate}
-use lib.Seq.{get_or-set_same, get_or-set_other, take-suc}
+use lib.ListN.{length, length-set, length-replicate}
+use lib.Seq.{get_or-set_same, get_or-set_other}
 use borrow.Author.Tests.{eqb-true, eqb-false}
 use Rattle.columns.specs.Lists.{◌!◌, one, count}
 use Rattle.columns.specs.Columns.{zeros}

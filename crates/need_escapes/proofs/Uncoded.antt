@@ -4,7 +4,7 @@ use native.Mathlib.Nat.{add-zero, not-suc-le-zero}
 use native.Mathlib.Numerals.{add-one}
 use native.Mathlib.Omega.{arith}
 use mathlib.Core.Path.{◌≡◌, refl, sym, ap, ap₂, subst, ◌∙◌}
-use mathlib.Core.Logic.{◌⊎◌, ⊎_elim}
+use mathlib.Core.Logic.{⊎_elim}
 use mathlib.Core.Bool.{Bool, true, false, cond}
 use mathlib.Core.List.{List, [], ◌∷◌, ◌++◌, map}
 use mathlib.Core.Option.{Option, none, some}
@@ -28,7 +28,7 @@ use Rattle.labels.specs.Coding.{table_place, code_by, code_in, codes_by, all_by,
 use Rattle.labels.specs.Fields.{table_label, first_ranked}
 use Rattle.labels.proofs.Table.{label-places}
 use Rattle.labels.proofs.Escapes.{escapes_places, escapes_append, escapes_few}
-use Rattle.labels.proofs.Codes.{laid_within, all_length}
+use Rattle.labels.proofs.Coded.{laid_within, all_length}
 use Rattle.labels.proofs.Occurring.{tab-take}
 use Rattle.need_escapes.specs.Uncoded.{KnownLabels, cap, capped, is_more, used_more, layers}
 use Rattle.need_escapes.proofs.Layers.{more_than, falling, sum-behind, sort-falls, few_more, count_swap}

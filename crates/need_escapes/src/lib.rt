@@ -2,8 +2,7 @@
 // which of them needs the exact count, and that takes only the code table.
 #![tactic(auto)]
 
-ghost use Rattle.std.specs.Prelude.{◌≡◌, ◌+◌, ◌-◌, ◌≤◌, min, length};
-ghost use Rattle.columns.specs.Columns.{zeros};
+ghost use Rattle.std.specs.Prelude.{◌≡◌, ◌+◌, ◌-◌, ◌≤◌, length};
 ghost use Rattle.rules.specs.Labels.{coded};
 ghost use Rattle.labels.specs.Coding.{Room, LaidOut};
 ghost use Rattle.labels.specs.Fields.{first};
@@ -14,29 +13,15 @@ use labels::code::slot_of;
 // So many fields have codes.
 const CODED: usize = 32767;
 
-// One use more, up to 65,535.
-fn one_more(uses: u16) -> u16
-    ensures { result ≡ min 65535 (uses + 1) }
-{
-    if uses < 65535 { uses + 1 } else { 65535 }
-}
-
-fn wide(uses: u16) -> usize
-    ensures { result ≡ uses }
-{
-    uses as usize
-}
-
 // How often each label is used, up to 65,535, by its place in the table.
+#[tactic(auto, using(labels::proofs::Table::slot_within))]
 fn count_capped(labels: &[u32], names: usize, table: &mut [u16])
     requires { Room names table.old }
     ensures { table.new ≡ capped names table.old labels.now }
 {
-    let mut i = 0;
-    while i < labels.len() {
-        let at = slot_of(labels[i], names);
-        table[at] = one_more(table[at]);
-        i += 1;
+    for label in labels {
+        let at = slot_of(*label, names);
+        table[at] = table[at].saturating_add(1);
     }
 }
 
@@ -45,17 +30,10 @@ fn used_more(table: &[u16], names: usize, times: usize) -> usize
     requires { Room names table.now }
     ensures { result ≡ used_more names table.now times }
 {
-    let mut n = 0;
-    let mut i = 0;
-    while i <= names {
-        if times < wide(table[i]) {
-            n += 1;
-            i += 1;
-        } else {
-            i += 1;
-        }
-    }
-    n
+    table[..names + 1]
+        .iter()
+        .filter(|uses| times < usize::from(**uses))
+        .count()
 }
 
 // The uses of all fields behind the first 32,767 of the ranking, layer by layer: of the fields used more than 0 times, more than once, and so on, those
@@ -82,10 +60,10 @@ pub fn slow_escapes(offsets: &[u64], labels: &[u32], names: usize, table: &mut [
     requires known_labels { KnownLabels names labels.now × (length labels.now ≤ 268435456) }
     ensures { Escaped (coded (first names labels.now) offsets.now labels.now (length offsets.now - 1)) table.old result table.new }
 {
-    columns::zero_u16(table, 0);
+    columns::zero(table, 0);
     let elements = label_codes::count_escapes(offsets, labels, names, table);
     count_capped(labels, names, table);
     let fields = count_uncoded(table, names);
-    columns::zero_u16(table, 0);
+    columns::zero(table, 0);
     elements + fields
 }

@@ -1,15 +1,18 @@
 -- The most weak pairs, counted slot by slot and object by object; that instances of classes of kind none are stepped over rightly; and that neither route has more. Assumes nothing.
-use Prim.Native.Nat.{ℕ, ◌+◌, ◌-◌, ◌≤◌, ◌<◌}
+use Prim.Native.Nat.{ℕ, zero, suc, ◌+◌, ◌-◌, ◌≤◌, ◌<◌}
 use native.Mathlib.Nat.{le_refl}
 use native.Mathlib.Numerals.{add-one}
 use native.Mathlib.Omega.{arith}
-use mathlib.Core.Path.{◌≡◌, refl, sym, ap₂, ◌∙◌}
+use mathlib.Core.Path.{◌≡◌, refl, sym, ap, ap₂, ◌∙◌}
 use mathlib.Core.Bool.{Bool, true, false, cond, not}
 use mathlib.Core.List.{List, [], ◌∷◌}
 use lib.Dec.{eqb, ltb}
-use lib.ListN.{length}
+use lib.ListN.{length, take, drop, length-drop}
+use lib.Seq.{get_or-drop}
+use Rattle.std.specs.List.{count_by}
+use Rattle.std.proofs.lemmas.List.Sums.{sum_by_more}
 use borrow.Author.Tests.{eq-eqb, ne_eqb, eqb-true, eqb-false, lt-ltb, le-ltb, le-leb, lt-leb, ltb-false}
-use Rattle.columns.specs.Lists.{◌!◌, tab, total, one, all_of, any_of, any}
+use Rattle.columns.specs.Lists.{◌!◌, part, tab, total, one, all_of, any_of, any}
 use Rattle.columns.proofs.Tests.{none_of, any_false, some_of, or_none}
 use Rattle.columns.proofs.Sums.{total-le, total-le-total, leading_within}
 use Rattle.index.specs.Copied.{Ids}
@@ -22,15 +25,22 @@ use Rattle.edge_append.specs.Raw.{bytes_id, slot_ends, slots_read, raw_slot, raw
 use Rattle.need_weak.specs.Pairs.{pairs_in, copied_pairs, copied_total, raw_pairs, raw_total, weak_at, plain_weak, most_pairs, most_weak}
 use Rattle.need_weak.proofs.Counting.{slot-pair, slot_kept_lem, class_kept, pairs-tab, pair_few, none_in}
 
-pub weak-one : (weak : ℕ) → weak ≡ 1 → 1 ≡ one (eqb weak 1)
-weak-one weak h = rw (eq-eqb weak 1 h)
+cond-one : (b : Bool) → cond b 1 0 ≡ one b
+cond-one true = refl
+cond-one false = refl
 
-pub weak_none : (weak : ℕ) → (weak ≡ 1 → ⊥) → 0 ≡ one (eqb weak 1)
-weak_none weak h = rw (ne_eqb weak 1 h)
+-- the weak slots of a part, counted
+pub count_weak : (weak : List ℕ) (first k : ℕ) → first + k ≤ length weak → count_by (λ w. eqb w 1) (part weak first (first + k)) ≡ total (weak_at weak first) k
+count_weak weak first k l = let e : first + k - first ≡ k = omega arith in rw e (go k l)
+  where
+    xs : List ℕ
+    xs = drop first weak
 
--- one slot more
-pub weak_more : (weak : List ℕ) (first k : ℕ) {n r : ℕ} → n ≡ total (weak_at weak first) k → r ≡ one (eqb (weak ! (first + k)) 1) → n + r ≡ total (weak_at weak first) (k + 1)
-weak_more weak first k e d = rw (add-one k, e, d)
+    go : (k : ℕ) → first + k ≤ length weak → count_by (λ w. eqb w 1) (take k xs) ≡ total (weak_at weak first) k
+    go zero l = refl
+    go (suc k) l =
+        let h : k < length xs = omega (arith, length-drop first weak) in
+        rw (add-one, go k (omega arith), get_or-drop first weak k 0) at (sum_by_more (λ w. cond (eqb w 1) 1 0) xs k 0 h) ∙ ap (λ (n : ℕ). total (weak_at weak first) k + n) (cond-one (eqb (weak ! (first + k)) 1))
 
 -- Whether a class is of kind none and may have a weak slot, by the tests in their order;
 module _ (kinds starts ends weak : List ℕ) (class : ℕ) where

@@ -2,6 +2,7 @@
 use Prim.Native.Nat.{ℕ, ◌+◌, ◌-◌, ◌≤◌}
 use native.Mathlib.Nat.{add-zero}
 use native.Mathlib.Numerals.{add-one}
+use native.Mathlib.Omega.{arith}
 use mathlib.Core.Path.{◌≡◌, refl, sym, ap, ap₂, ◌∙◌}
 use mathlib.Core.Bool.{Bool, true, false, cond, not, ◌||◌}
 use mathlib.Core.List.{List, []}
@@ -9,7 +10,9 @@ use mathlib.Core.Option.{Option, none, some}
 use lib.Dec.{eqb}
 use lib.ListN.{length}
 use borrow.Author.Tests.{eq-eqb, ne_eqb}
-use Rattle.columns.specs.Lists.{◌!◌, tab, find, total}
+use Rattle.std.specs.Prelude.{Result, Ok, Err, is_ok}
+use Rattle.columns.specs.Lists.{◌!◌, one, tab, find, total}
+use Rattle.lookup.specs.Lookup.{lookup_of}
 use Rattle.columns.proofs.Sums.{length-flat, sum-tab, total_none}
 use Rattle.index.specs.Copied.{Ids}
 use Rattle.rules.specs.declared.ReferencePolicy.{ReferencePolicy}
@@ -19,7 +22,7 @@ use Rattle.rules.proofs.Bounds.{weak_few}
 use Rattle.edge_append.specs.Append.{ref_of, weak_among}
 use Rattle.edge_append.specs.Held.{kept_of, slot_with, copied_slot, copied_slots}
 use Rattle.edge_append.specs.Raw.{raw_slot, raw_slots, slots_read}
-use Rattle.edge_append.proofs.Outcomes.{Becomes}
+use Rattle.edge_append.proofs.Outcomes.{Becomes, other_weak, lost-missing}
 use Rattle.edge_append.proofs.Reading.{slots_none, slots_some}
 use Rattle.edge_append.proofs.Bytes.{raw_none, raw_some}
 use Rattle.need_weak.specs.Pairs.{pair_to, pairs_in, copied_pairs, copied_total, raw_pairs, raw_total}
@@ -28,6 +31,11 @@ use Rattle.need_weak.specs.Pairs.{pair_to, pairs_in, copied_pairs, copied_total,
 pub pair_is : (ids : List ℕ) (id : ℕ) {u : Outcome} → Becomes ids (ref_of 0 0 false id) u → length (weak_of u) ≡ pair_to ids id
 unfolding pair_to
 pair_is ids id b = sym (ap (λ (u : Outcome). length (weak_of u)) b.told)
+
+-- the same by whether the lookup finds it
+pub pair_sought : (ids : List ℕ) (id : ℕ) → (id ≡ 0 → ⊥) → (r : Result ℕ ℕ) → r ≡ lookup_of ids id → one (is_ok r) ≡ pair_to ids id
+pair_sought ids id h (Ok t) e = pair_is ids id (other_weak ids 0 0 false id h e refl)
+pair_sought ids id h (Err p) e = pair_is ids id (lost-missing ids 0 0 false id h e (omega arith))
 
 -- a reference that is kept gives no weak pair, and none gives more than one
 absent_none : (k : Kind) → weak_of (absent k) ≡ []

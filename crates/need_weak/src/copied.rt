@@ -27,14 +27,10 @@ fn slots(
         slot_weak.now false first) count)) count result }
 {
     let mut n = 0;
-    let mut k = 0;
-    while k < count {
+    for k in 0..count {
         if slot_weak[first + k] == 1 {
             let id = id_held(codes, escape_places, escape_ids, base, start + k);
             n += pair_to(ids, id, guess);
-            k += 1;
-        } else {
-            k += 1;
         }
     }
     n
@@ -61,7 +57,7 @@ fn object(
     ensures { Few (copied_pairs ids.now (ids_of codes.now escape_places.now escape_ids.now base) start class_kinds.now
         slot_starts.now slot_ends.now slot_weak.now policy kind class) (length slot_weak.now) result }
 {
-    if kind != rules::Kind::INSTANCE {
+    if kind != rules::Kind::Instance as u8 {
         return 0;
     }
     if policy.keeps(class_kinds[class]) {
@@ -107,8 +103,7 @@ pub fn count_weak_copied(
         slot_weak.now policy (length ids.now) }
 {
     let mut n: usize = 0;
-    let mut o = 0;
-    while o < ids.len() {
+    for o in 0..ids.len() {
         n += object(
             columns::index(starts[o]),
             kinds[o],
@@ -125,7 +120,6 @@ pub fn count_weak_copied(
             base,
             policy,
         );
-        o += 1;
     }
     n
 }

@@ -18,8 +18,5 @@ fn pair_to(ids: &[u64], id: u64, guess: usize) -> usize
     if id == 0 {
         return 0;
     }
-    match lookup::find_sorted(ids, id, guess) {
-        lookup::Found::At(_) => 1,
-        lookup::Found::Missing(_) => 0,
-    }
+    usize::from(lookup::find_sorted(ids, id, guess).is_ok())
 }

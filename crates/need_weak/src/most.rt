@@ -1,28 +1,18 @@
 // The most weak pairs that there can be, by either route: the weak slots, whatever ids they hold. No id is read and nothing is looked up.
 ghost use Rattle.std.specs.Prelude.{◌≡◌, false, cond, not, ℕ, ◌+◌, ◌≤◌, ◌<◌, eqb, length};
-ghost use Rattle.columns.specs.Lists.{◌!◌, one, total, any};
+ghost use Rattle.columns.specs.Lists.{◌!◌, total, any};
 ghost use Rattle.edge_append.specs.Held.{SlotsIn};
 ghost use Rattle.need_weak.specs.Pairs.{Few, weak_at, plain_weak, most_pairs, most_weak};
-
-// 1 for a weak slot: a call in the place of a branch, so that the walk has one way on.
-fn one_weak(weak: u8) -> usize
-    ensures { result ≡ one (eqb weak 1) }
-{
-    if weak == 1 { 1 } else { 0 }
-}
 
 // The weak slots of the first `count` from `first` on.
 fn slots(slot_weak: &[u8], first: usize, count: usize) -> usize
     requires { first + count ≤ length slot_weak.now }
     ensures { Few (total (weak_at slot_weak.now first) count) count result }
 {
-    let mut n = 0;
-    let mut k = 0;
-    while k < count {
-        n += one_weak(slot_weak[first + k]);
-        k += 1;
-    }
-    n
+    slot_weak[first..first + count]
+        .iter()
+        .filter(|weak| **weak == 1)
+        .count()
 }
 
 // Whether a class is of kind none and may have a weak slot: one that has no range of slots inside the table may.
@@ -36,7 +26,7 @@ fn class_weak(
     requires { class < length class_kinds.now }
     ensures { result ≡ plain_weak class_kinds.now slot_starts.now slot_ends.now slot_weak.now class }
 {
-    if class_kinds[class] != rules::RefKind::NONE {
+    if class_kinds[class] != rules::RefKind::None as u8 {
         return false;
     }
     if slot_starts.len() <= class {
@@ -60,12 +50,10 @@ fn class_weak(
 fn plain_weak(class_kinds: &[u8], slot_starts: &[u32], slot_ends: &[u32], slot_weak: &[u8]) -> bool
     ensures { result ≡ any (plain_weak class_kinds.now slot_starts.now slot_ends.now slot_weak.now) (length class_kinds.now) }
 {
-    let mut class = 0;
-    while class < class_kinds.len() {
+    for class in 0..class_kinds.len() {
         if class_weak(class_kinds, slot_starts, slot_ends, slot_weak, class) {
             return true;
         }
-        class += 1;
     }
     false
 }
@@ -74,7 +62,7 @@ fn plain_weak(class_kinds: &[u8], slot_starts: &[u32], slot_ends: &[u32], slot_w
 fn is_plain(mixed: bool, class_kind: u8) -> bool
     ensures { result ≡ cond (eqb class_kind 0) (not mixed) false }
 {
-    if class_kind == rules::RefKind::NONE {
+    if class_kind == rules::RefKind::None as u8 {
         !mixed
     } else {
         false
@@ -96,7 +84,7 @@ fn object(
     requires mixed_value { mixed ≡ any (plain_weak class_kinds.now slot_starts.now slot_ends.now slot_weak.now) (length class_kinds.now) }
     ensures { Few (most_pairs class_kinds.now slot_starts.now slot_ends.now slot_weak.now policy kind class) (length slot_weak.now) result }
 {
-    if kind != rules::Kind::INSTANCE {
+    if kind != rules::Kind::Instance as u8 {
         return 0;
     }
     if is_plain(mixed, class_kinds[class]) {
@@ -127,8 +115,7 @@ pub fn most_weak(
 {
     let mixed = plain_weak(class_kinds, slot_starts, slot_ends, slot_weak);
     let mut n: usize = 0;
-    let mut o = 0;
-    while o < kinds.len() {
+    for o in 0..kinds.len() {
         n += object(
             class_kinds,
             slot_starts,
@@ -139,7 +126,6 @@ pub fn most_weak(
             kinds[o],
             columns::index(classes[o]),
         );
-        o += 1;
     }
     n
 }

@@ -36,8 +36,7 @@ fn slots(
         (slots_read slot_offsets.now size body first count))) count result }
 {
     let mut n = 0;
-    let mut k = 0;
-    while k < count {
+    for k in 0..count {
         let offset = slot_offsets[first + k];
         if ends_past(offset, size, body) {
             return n;
@@ -45,9 +44,6 @@ fn slots(
         if slot_weak[first + k] == 1 {
             let id = id_at_bytes(bytes, start + columns::index(offset), size);
             n += pair_to(ids, id, guess);
-            k += 1;
-        } else {
-            k += 1;
         }
     }
     n
@@ -75,7 +71,7 @@ fn object(
     ensures { Few (raw_pairs ids.now bytes.now size start body class_kinds.now slot_starts.now slot_ends.now
         slot_offsets.now slot_weak.now policy kind class) (length slot_weak.now) result }
 {
-    if kind != rules::Kind::INSTANCE {
+    if kind != rules::Kind::Instance as u8 {
         return 0;
     }
     if policy.keeps(class_kinds[class]) {
@@ -121,8 +117,7 @@ pub fn count_weak_raw(
         slot_starts.now slot_ends.now slot_offsets.now slot_weak.now policy (length ids.now) }
 {
     let mut n: usize = 0;
-    let mut o = 0;
-    while o < ids.len() {
+    for o in 0..ids.len() {
         n += object(
             starts[o] as usize,
             columns::index(bodies[o]),
@@ -139,7 +134,6 @@ pub fn count_weak_raw(
             size,
             policy,
         );
-        o += 1;
     }
     n
 }

@@ -1,12 +1,11 @@
 -- How many digits a number has as it is written, and what a turn of a column's loop keeps, at any width. Assumes nothing.
 use Rattle.std.proofs.Common.{◌≡◌, ℕ, zero, suc, ◌+◌, ◌-◌, ◌/◌, ◌%◌, ◌^◌, ◌<◌, ◌≤◌, inl, inr, List, [], ◌∷◌, length, take, sym, refl, ap, add-one, arith, take-suc, le-ltb, lt-ltb, length-append, eq-zero-or-pos}
-use lib.Seq.{take-length}
 use Rattle.io.specs.Digits.{IsDigitCount}
 use Rattle.std.specs.Fmt.{decimal}
 use Rattle.std.proofs.lemmas.Fmt.{decimal_digit, decimal_step}
 use Rattle.columns.specs.Lists.{◌!◌, sum}
 use Rattle.columns.proofs.Sums.{sum-append}
-use Rattle.print.specs.Printed.{digits_by, digit_count, spaced_bytes, column_bytes}
+use Rattle.print.specs.Printed.{digits_by, digit_count, spaced_bytes}
 
 digits_written : (k n : ℕ) → n ≤ k → n < 2 ^ 64 → length (decimal n) ≡ digits_by k n
 unfolding digits_by
@@ -48,15 +47,9 @@ pub record Writing (text xs : List ℕ) (bytes i : ℕ) : Type 0 where
   pub counted : bytes ≡ (length text + sum spaced_bytes (take i xs)) % 2 ^ 64
 
 module _ (text xs : List ℕ) where
-  pub writing_starts : (bytes : ℕ) → bytes < 2 ^ 64 → bytes ≡ length text → Writing text xs bytes 0
-  writing_starts bytes l e = record { within = omega arith; counted = omega arith }
-
   pub writing_on : {bytes i : ℕ} (n put now : ℕ) → Writing text xs bytes i → i < length xs → n ≡ xs ! i → put ≡ spaced_bytes n → now ≡ (bytes + put) % 2 ^ 64 → Writing text xs now (i + 1)
   writing_on {bytes} {i} n put now w l a p e =
       record {
         within = omega arith;
         counted = rw (add-one, take-suc xs i 0 l, ← a) (omega (arith, sum-append spaced_bytes (take i xs) (n ∷ [])));
       }
-
-  pub writing_ends : {bytes i : ℕ} (now : ℕ) → Writing text xs bytes i → length xs ≤ i → now ≡ (bytes + 1) % 2 ^ 64 → now ≡ column_bytes text xs
-  writing_ends {bytes} {i} now w l e = let all : i ≡ length xs = omega arith in omega (arith, rw (all, take-length) at w.counted)

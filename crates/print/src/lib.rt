@@ -6,9 +6,9 @@
 ghost use Rattle.std.specs.Prelude.{◌≡◌, IfOk, length};
 ghost use Rattle.print.specs.Printed.{digit_count, spaced_bytes, line_bytes, column_bytes};
 
+use columns::Number;
 use itoa::Buffer;
 use std::io;
-use std::num::wrapping_add_usize;
 
 pub fn word(rt: &impl Print, text: &[u8]) -> io::Result<usize>
     ensures { IfOk result (λ bytes. bytes ≡ length text.now) }
@@ -31,15 +31,15 @@ pub fn number(rt: &impl Print, n: u64) -> io::Result<usize>
 pub fn line(rt: &impl Print, text: &[u8], n: u64) -> io::Result<usize>
     ensures { IfOk result (λ bytes. bytes ≡ line_bytes text.now n) }
 {
-    let bytes = wrapping_add_usize(word(rt, text)?, number(rt, n)?);
-    Ok(wrapping_add_usize(bytes, end(rt)?))
+    let bytes = word(rt, text)?.wrapping_add(number(rt, n)?);
+    Ok(bytes.wrapping_add(end(rt)?))
 }
 
 fn next(rt: &impl Print, n: u64) -> io::Result<usize>
     ensures { IfOk result (λ bytes. bytes ≡ spaced_bytes n) }
 {
     let bytes = word(rt, b" ")?;
-    Ok(wrapping_add_usize(bytes, number(rt, n)?))
+    Ok(bytes.wrapping_add(number(rt, n)?))
 }
 
 fn end(rt: &impl Print) -> io::Result<usize>
@@ -48,44 +48,12 @@ fn end(rt: &impl Print) -> io::Result<usize>
     word(rt, b"\n")
 }
 
-pub fn column_u64(rt: &impl Print, text: &[u8], xs: &[u64]) -> io::Result<usize>
-    ensures { IfOk result (λ bytes. bytes ≡ column_bytes text.now xs.now) }
+pub fn column<T: Number>(rt: &impl Print, text: &[u8], xs: &[T]) -> io::Result<usize>
+    ensures { IfOk result (λ bytes. bytes ≡ column_bytes text.now (T.numbers xs.now)) }
 {
     let mut bytes = word(rt, text)?;
-    let mut i = 0;
-    while i < xs.len() {
-        bytes = wrapping_add_usize(bytes, next(rt, xs[i])?);
-        i += 1;
+    for x in xs {
+        bytes = bytes.wrapping_add(next(rt, x.wide())?);
     }
-    Ok(wrapping_add_usize(bytes, end(rt)?))
-}
-
-pub fn column_u32(rt: &impl Print, text: &[u8], xs: &[u32]) -> io::Result<usize>
-    ensures { IfOk result (λ bytes. bytes ≡ column_bytes text.now xs.now) }
-{
-    let mut bytes = word(rt, text)?;
-    let mut i = 0;
-    while i < xs.len() {
-        bytes = wrapping_add_usize(bytes, next(rt, columns::wide(xs[i]))?);
-        i += 1;
-    }
-    Ok(wrapping_add_usize(bytes, end(rt)?))
-}
-
-fn wide(x: u16) -> u64
-    ensures { result ≡ x }
-{
-    x as u64
-}
-
-pub fn column_u16(rt: &impl Print, text: &[u8], xs: &[u16]) -> io::Result<usize>
-    ensures { IfOk result (λ bytes. bytes ≡ column_bytes text.now xs.now) }
-{
-    let mut bytes = word(rt, text)?;
-    let mut i = 0;
-    while i < xs.len() {
-        bytes = wrapping_add_usize(bytes, next(rt, wide(xs[i]))?);
-        i += 1;
-    }
-    Ok(wrapping_add_usize(bytes, end(rt)?))
+    Ok(bytes.wrapping_add(end(rt)?))
 }

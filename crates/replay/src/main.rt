@@ -10,61 +10,36 @@
 mod rooms;
 mod routes;
 
-use case_graph::case::Sound;
 use case_graph::{case, lists};
-use case_text::fault::Fault;
-use case_text::lists::Listed;
+use case_text::arrays::{BYTES, HALVES, TEXT};
+use case_text::column::part;
+use case_text::fault::{Ended, Fault, Malformed};
+use case_text::text::Mark;
 use case_text::{arrays, fault, input, text};
 use std::io;
 
-// A title as the text has it.
-fn title(rt: &impl Print, text: &[u8], start: usize, end: usize) -> io::Result<()> {
-    if end < start {
-        return Ok(());
-    }
-    if text.len() < end {
-        return Ok(());
-    }
-    print::word(rt, &text[start..end])?;
-    print::word(rt, b"\n")?;
-    Ok(())
-}
-
 // A case whose lists are read is built, unless they are none of a case. Where the next case begins.
-fn built<'a>(
+fn built(
     rt: &impl Print,
     text: &[u8],
     behind: usize,
-    bytes: &'a [u8],
-    halves: &'a [u32],
-    words: &'a [u64],
-    cuts: &'a [usize],
-) -> io::Result<usize> {
-    let next = text::seek(text, behind, text::LIST);
-    if text::byte(text, next) == b'[' {
-        fault::tell(rt, Fault::ListTooMany, next)?;
-        return Ok(text.len());
+    bytes: &[u8],
+    halves: &[u32],
+    words: &[u64],
+    cuts: &[usize],
+) -> Result<usize, Ended> {
+    let at = text::seek(text, behind, Mark::List);
+    if text::byte(text, at) == b'[' {
+        let why = Fault::ListTooMany;
+        return Err(Ended::from(Malformed { at, why }));
     }
-    match case::soundness(halves, words, cuts) {
-        Sound::Yes => {
-            rooms::every(
-                rt,
-                bytes,
-                halves,
-                words,
-                cuts,
-                case::numbers_of(words, cuts),
-            )?;
-            Ok(next)
-        }
-        Sound::No(why) => {
-            fault::tell(rt, why, behind)?;
-            Ok(text.len())
-        }
-    }
+    case::soundness(halves, words, cuts).map_err(|why| Malformed { at: behind, why })?;
+    let n = case::numbers_of(words, cuts);
+    rooms::every(rt, bytes, halves, words, cuts, n)?;
+    Ok(at)
 }
 
-// The case whose title begins at a place, and where the next one begins; the end of the text where there is none, or the text is malformed.
+// The case whose title begins at a place, and where the next one begins; the end of the text where there is none.
 fn one(
     rt: &impl Print,
     text: &[u8],
@@ -73,21 +48,18 @@ fn one(
     halves: &mut [u32],
     words: &mut [u64],
     cuts: &mut [usize],
-) -> io::Result<usize> {
+) -> Result<usize, Ended> {
     let start = text::behind(text, at);
-    let end = text::seek(text, start, text::TITLE);
+    let end = text::seek(text, start, Mark::Title);
     if text.len() <= end {
-        fault::tell(rt, Fault::TitleNotClosed, at)?;
-        return Ok(text.len());
+        let why = Fault::TitleNotClosed;
+        return Err(Ended::from(Malformed { at, why }));
     }
-    title(rt, text, start, end)?;
-    match lists::all(text, text::behind(text, end), bytes, halves, words, cuts) {
-        Listed::Done { next, used: _ } => built(rt, text, next, bytes, halves, words, cuts),
-        Listed::Bad { at: place, why } => {
-            fault::tell(rt, why, place)?;
-            Ok(text.len())
-        }
-    }
+    // The title as the text has it.
+    print::word(rt, part(text, start, end))?;
+    println!(rt)?;
+    let read = lists::all(text, text::behind(text, end), bytes, halves, words, cuts)?;
+    built(rt, text, read.next, bytes, halves, words, cuts)
 }
 
 // Every case has a byte at least, so that there are no more turns than bytes.
@@ -98,33 +70,33 @@ fn every(
     halves: &mut [u32],
     words: &mut [u64],
     cuts: &mut [usize],
-) -> io::Result<()> {
-    let mut at = text::seek(text, 0, text::TITLE);
-    let mut turn = 0;
-    while turn < text.len() {
+) -> Result<(), Ended> {
+    let mut at = text::seek(text, 0, Mark::Title);
+    for _ in 0..text.len() {
         if text.len() <= at {
-            return Ok(());
+            break;
         }
         at = one(rt, text, at, bytes, halves, words, cuts)?;
-        turn += 1;
     }
     Ok(())
 }
 
 // A text that fills its room may go on behind it.
-fn replay(rt: &impl Print, text: &[u8]) -> io::Result<()> {
-    let mut bytes = arrays::bytes();
-    let mut halves = arrays::halves();
+fn replay(rt: &impl Print, text: &[u8]) -> Result<(), Ended> {
+    let mut bytes: [u8; BYTES] = arrays::filled(0);
+    let mut halves: [u32; HALVES] = arrays::filled(0);
     let mut words: [u64; 10000] = [0; 10000];
     let mut cuts: [usize; 56] = [0; 56];
-    if arrays::TEXT <= text.len() {
-        return fault::tell(rt, Fault::TextTooLong, text.len());
+    if TEXT <= text.len() {
+        let at = text.len();
+        let why = Fault::TextTooLong;
+        return Err(Ended::from(Malformed { at, why }));
     }
     every(rt, text, &mut bytes, &mut halves, &mut words, &mut cuts)
 }
 
 fn main(rt: HostRuntime) -> io::Result<()> {
-    let mut room = arrays::text();
+    let mut room: [u8; TEXT] = arrays::filled(0);
     let n = input::read_full(&rt, &mut room)?;
-    replay(&rt, &room[..n])
+    fault::tell(&rt, replay(&rt, &room[..n]))
 }

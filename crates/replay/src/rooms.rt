@@ -3,16 +3,17 @@ use crate::routes;
 use case_graph::case;
 use case_graph::case::{BLOCKS, Numbers, ROWS};
 use case_text::arrays::{EDGES, NAMED, room};
-use case_text::{arrays, column, form};
+use case_text::column::used;
+use case_text::{arrays, column};
 use std::io;
 
 // The columns of a case, each with the room that the case names.
-fn lend<'a>(
+fn lend(
     rt: &impl Print,
-    bytes: &'a [u8],
-    halves: &'a [u32],
-    words: &'a [u64],
-    cuts: &'a [usize],
+    bytes: &[u8],
+    halves: &[u32],
+    words: &[u64],
+    cuts: &[usize],
     n: Numbers,
 ) -> io::Result<()> {
     let rooms = case::rooms_of(words, cuts, n.set);
@@ -33,8 +34,8 @@ fn lend<'a>(
     let codes_room = room(rooms, 14, EDGES);
     let counting_room = room(rooms, 15, NAMED);
     let ranking_room = room(rooms, 16, NAMED);
-    let mut targets = arrays::edges_u32();
-    let mut labels = arrays::edges_u32();
+    let mut targets: [u32; EDGES] = arrays::filled(9);
+    let mut labels: [u32; EDGES] = arrays::filled(9);
     let mut weak_from: [u32; ROWS] = [9; ROWS];
     let mut weak_to: [u32; ROWS] = [9; ROWS];
     let mut roots: [u32; ROWS] = [9; ROWS];
@@ -44,13 +45,13 @@ fn lend<'a>(
     let mut short: [u16; ROWS] = [9; ROWS];
     let mut long_at: [u32; ROWS] = [9; ROWS];
     let mut long_value: [u64; ROWS] = [9; ROWS];
-    let mut fields = arrays::named_u32();
-    let mut table = arrays::named_u16();
+    let mut fields: [u32; NAMED] = arrays::filled(9);
+    let mut table: [u16; NAMED] = arrays::filled(9);
     let mut escape_at: [u64; ROWS] = [9; ROWS];
     let mut escape_label: [u32; ROWS] = [9; ROWS];
-    let mut codes = arrays::edges_u16();
-    let mut counting = arrays::named_u64();
-    let mut ranking = arrays::named_u64();
+    let mut codes: [u16; EDGES] = arrays::filled(9);
+    let mut counting: [u64; NAMED] = arrays::filled(9);
+    let mut ranking: [u64; NAMED] = arrays::filled(9);
     routes::run(
         rt,
         bytes,
@@ -76,47 +77,32 @@ fn lend<'a>(
         &mut codes[..codes_room],
         &mut counting[..counting_room],
         &mut ranking[..ranking_room],
-    )?;
-    Ok(())
+    )
 }
 
 // Which rooms are lent, where the case has several sets of them.
-fn tell<'a>(rt: &impl Print, words: &'a [u64], cuts: &'a [usize], n: Numbers) -> io::Result<()> {
+fn tell(rt: &impl Print, words: &[u64], cuts: &[usize], n: Numbers) -> io::Result<()> {
     if case::sets_of(words, cuts) < 2 {
         return Ok(());
     }
-    column::of_u64(rt, b"  rooms", first(case::rooms_of(words, cuts, n.set)))
-}
-
-fn first<'a>(rooms: &'a [u64]) -> &'a [u64] {
-    if rooms.len() < 17 {
-        return rooms;
-    }
-    &rooms[0..17]
+    column::of(rt, "  rooms", used(case::rooms_of(words, cuts, n.set), 17))
 }
 
 // The case in each of its sets of rooms.
-fn each<'a>(
+fn each(
     rt: &impl Print,
-    bytes: &'a [u8],
-    halves: &'a [u32],
-    words: &'a [u64],
-    cuts: &'a [usize],
+    bytes: &[u8],
+    halves: &[u32],
+    words: &[u64],
+    cuts: &[usize],
     n: Numbers,
 ) -> io::Result<()> {
-    let sets = case::sets_of(words, cuts);
-    let mut set = 0;
-    while set < sets {
+    for set in 0..case::sets_of(words, cuts) {
         let own = case::with_set(n, set);
         tell(rt, words, cuts, own)?;
         lend(rt, bytes, halves, words, cuts, own)?;
-        set += 1;
     }
     Ok(())
-}
-
-fn flag(kept: bool) -> u64 {
-    if kept { 1 } else { 0 }
 }
 
 // Which policy is followed, where the case has several.
@@ -124,29 +110,27 @@ fn tell_policy(rt: &impl Print, n: Numbers) -> io::Result<()> {
     if !n.several {
         return Ok(());
     }
-    form::fill(
-        rt,
-        b"  policy: keep soft #, keep weak #\n",
-        &[flag(n.soft), flag(n.weak)],
+    println!(rt;
+        "  policy: keep soft {}, keep weak {}",
+        u8::from(n.soft),
+        u8::from(n.weak)
     )
 }
 
 // The case under its policy, or under every policy.
-pub(crate) fn every<'a>(
+pub(crate) fn every(
     rt: &impl Print,
-    bytes: &'a [u8],
-    halves: &'a [u32],
-    words: &'a [u64],
-    cuts: &'a [usize],
+    bytes: &[u8],
+    halves: &[u32],
+    words: &[u64],
+    cuts: &[usize],
     n: Numbers,
 ) -> io::Result<()> {
     let policies = case::policies_of(words, cuts);
-    let mut policy = 0;
-    while policy < policies {
+    for policy in 0..policies {
         let own = case::with_policy(n, policies, policy);
         tell_policy(rt, own)?;
         each(rt, bytes, halves, words, cuts, own)?;
-        policy += 1;
     }
     Ok(())
 }

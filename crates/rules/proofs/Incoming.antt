@@ -23,7 +23,9 @@ use Rattle.columns.proofs.Parts.{places_ext}
 use Rattle.columns.proofs.Written.{used_part}
 use Rattle.columns.proofs.Placing.{every_more, map_ext, total_swap, places_split, each_value, count_shift, owner_at, owner_count}
 use Rattle.store.specs.Blocked.{Blocked, blocked_of, blocked, blocks_of, long_rows, above_at}
-use Rattle.rules.specs.declared.Inverted.{Inverted}
+use Rattle.std.specs.Prelude.{Result}
+use Rattle.rules.specs.declared.Inverse.{Inverse}
+use Rattle.rules.specs.declared.InvertError.{InvertError}
 use Rattle.rules.specs.Types.{inverted_says}
 use Rattle.rules.specs.Verdict.{first_of, at}
 use Rattle.rules.specs.Parts.{no_object}
@@ -293,7 +295,7 @@ unfolding invert_left leaves
 refused_incoming c r e = rw e
 
 -- No second outcome satisfies the promise: the answer's number and values, and all that is left.
-pub one_inversion : (c : Columns) (rooms : InRooms) {r r' : Inverted} {l l' : InLeft} → inverted_says r ≡ invert_says c rooms → l ≡ invert_left c rooms
+pub one_inversion : (c : Columns) (rooms : InRooms) {r r' : Result Inverse InvertError} {l l' : InLeft} → inverted_says r ≡ invert_says c rooms → l ≡ invert_left c rooms
     → inverted_says r' ≡ invert_says c rooms
     → l' ≡ invert_left c rooms → (r ≡ r') × (l ≡ l')
 one_inversion c rooms {r} {r'} e f e' f' = (one_inverted r r' (e ∙ sym e'), f ∙ sym f')

@@ -3,41 +3,23 @@
 use Prim.Native.Nat.{ℕ}
 use mathlib.Core.Path.{◌≡◌, refl, sym, ap, ◌∙◌}
 use mathlib.Core.Bool.{false, cond}
-use mathlib.Core.List.{List}
+use mathlib.Core.List.{List, [], ◌∷◌}
 use lib.Dec.{eqb}
 use lib.ListN.{length}
 use Rattle.columns.specs.Lists.{◌!◌}
-use Rattle.columns.specs.Columns.{accepts}
+use Rattle.columns.specs.Columns.{accepts, kept}
 use Rattle.rules.specs.declared.Refusal.{Refusal}
-use Rattle.rules.specs.declared.Refusal.TheVariants as Refusal
-use Rattle.rules.specs.declared.Checked.{Checked}
-use Rattle.rules.specs.declared.Checked.TheVariants as Checked
-use Rattle.rules.specs.declared.Built.{Built}
-use Rattle.rules.specs.declared.Built.TheVariants as Built
+use Rattle.rules.specs.declared.Label.{Label}
+use Rattle.rules.specs.declared.Counts.{Counts}
 use Rattle.rules.specs.declared.Span.{Span}
-use Rattle.rules.specs.declared.Span.TheVariants as Span
-use Rattle.rules.specs.declared.EdgeCount.{EdgeCount}
-use Rattle.rules.specs.declared.EdgeCount.TheVariants as EdgeCount
-use Rattle.rules.specs.declared.CoarseLabel.{CoarseLabel}
-use Rattle.rules.specs.declared.CoarseLabel.TheVariants as CoarseLabel
-use Rattle.rules.specs.declared.ExactLabel.{ExactLabel}
-use Rattle.rules.specs.declared.ExactLabel.TheVariants as ExactLabel
-use Rattle.rules.specs.declared.LabelOf.{LabelOf}
-use Rattle.rules.specs.declared.LabelOf.TheVariants as LabelOf
-use Rattle.rules.specs.declared.Field.{Field}
-use Rattle.rules.specs.declared.Field.TheVariants as Field
-use Rattle.rules.specs.declared.Referent.{Referent}
-use Rattle.rules.specs.declared.Referent.TheVariants as Referent
-use Rattle.rules.specs.declared.WeakReferents.{WeakReferents}
-use Rattle.rules.specs.declared.WeakReferents.TheVariants as WeakReferents
-use Rattle.rules.specs.declared.ObjectEdges.{ObjectEdges}
-use Rattle.rules.specs.declared.ObjectEdges.TheVariants as ObjectEdges
-use Rattle.rules.specs.declared.EachField.{EachField}
-use Rattle.rules.specs.declared.EachField.TheVariants as EachField
-use Rattle.rules.specs.declared.Inverted.{Inverted}
-use Rattle.rules.specs.declared.Inverted.TheVariants as Inverted
+use Rattle.rules.specs.declared.ListError.{ListError}
+use Rattle.rules.specs.declared.Inverse.{Inverse}
+use Rattle.rules.specs.declared.InvertError.{InvertError}
 use Rattle.rules.specs.declared.Entry.{Entry}
-use Rattle.rules.specs.declared.Entry.TheVariants as Entry
+use Rattle.store_read.specs.declared.ReadError.{ReadError}
+use Rattle.std.specs.Prelude.{Option, None, Some, Result, Ok, Err, is_ok}
+use Rattle.std.specs.Result.{result_unwrap_or}
+use Rattle.rules.specs.Types.{answer_says, found_values, label_values, read_error_says, list_error_says, invert_error_says}
 use Rattle.rules.specs.Types.{refusal_says, checked_says, built_says, span_says, edge_count_says, coarse_says, exact_says, label_of_says, field_says, referent_says}
 use Rattle.rules.specs.Types.{weak_says, object_edges_says, each_field_says, inverted_says, entry_says}
 use Rattle.rules.specs.Questions.{Promised}
@@ -76,6 +58,12 @@ refusal_of a =
     (cond (eqb (a ! 0) 11) (Refusal.Index (a ! 1))
     (Refusal.Columns (a ! 1))))))))))))
 
+-- a build accepts where its answer is `Ok`
+pub accepts_ok : (v : Result Counts Refusal) → accepts (built_says v) ≡ is_ok v
+unfolding accepts
+accepts_ok (Ok n) = refl
+accepts_ok (Err r) = refusal_refuses r
+
 refusal_back : (r : Refusal) → refusal_of (refusal_says r) ≡ r
 unfolding refusal_of
 refusal_back Refusal.Lengths = refl
@@ -91,189 +79,138 @@ refusal_back (Refusal.Parts c p) = refl
 refusal_back (Refusal.Index i) = refl
 refusal_back (Refusal.Columns o) = refl
 
-checked_of : List ℕ → Checked
-checked_of a = cond (accepts a) (Checked.Accepted (a ! 1)) (Checked.Refused (refusal_of a))
+read_error_of : List ℕ → ReadError
+read_error_of a = cond (eqb (a ! 0) 11) (ReadError.Index (a ! 1)) (ReadError.Columns (a ! 1))
 
-checked_back : (r : Checked) → checked_of (checked_says r) ≡ r
-unfolding checked_of accepts
-checked_back (Checked.Accepted p) = refl
-checked_back (Checked.Refused r) = rw (refusal_refuses r) (ap Checked.Refused (refusal_back r))
+list_error_of : List ℕ → ListError
+list_error_of a = cond (eqb (a ! 0) 9) (ListError.Room (a ! 1)) (cond (eqb (a ! 0) 11) (ListError.Index (a ! 1)) (ListError.Columns (a ! 1)))
 
-built_of : List ℕ → Built
-built_of a =
-    cond (accepts a) (Built.Done (record { edges = a ! 1; weak = a ! 2; roots = a ! 3; long = a ! 4; fields = a ! 5; escapes = a ! 6; dangling = a ! 7 }))
-    (Built.Refused (refusal_of a))
+invert_error_of : List ℕ → InvertError
+invert_error_of a = cond (eqb (a ! 0) 9) (InvertError.Room (a ! 1)) (InvertError.Columns (a ! 1))
 
-built-back : (r : Built) → built_of (built_says r) ≡ r
-unfolding built_of accepts
-built-back (Built.Done c) = refl
-built-back (Built.Refused r) = rw (refusal_refuses r) (ap Built.Refused (refusal_back r))
+-- what is refused is read off its number and values, and never accepts
+record Refused {E : Type 0} (says : E → List ℕ) : Type 0 where
+  of : List ℕ → E
+  back : (e : E) → of (says e) ≡ e
+  refuses : (e : E) → accepts (says e) ≡ false
 
--- No second answer satisfies a promise of the checks, or of a build.
-pub one_checked : (r r' : Checked) → checked_says r ≡ checked_says r' → r ≡ r'
-one_checked = same checked_says checked_of checked_back
+refusals : Refused refusal_says
+refusals = record { of = refusal_of; back = refusal_back; refuses = refusal_refuses }
 
-pub one-built : (r r' : Built) → built_says r ≡ built_says r' → r ≡ r'
-one-built = same built_says built_of built-back
+read_errors : Refused read_error_says
+unfolding read_error_of accepts
+read_errors = record {
+  of = read_error_of;
+  back = elim [ ReadError.Index i ↦ refl | ReadError.Columns o ↦ refl ];
+  refuses = elim [ ReadError.Index i ↦ refl | ReadError.Columns o ↦ refl ];
+}
+
+list_errors : Refused list_error_says
+unfolding list_error_of accepts
+list_errors = record {
+  of = list_error_of;
+  back = elim [ ListError.Room k ↦ refl | ListError.Index i ↦ refl | ListError.Columns o ↦ refl ];
+  refuses = elim [ ListError.Room k ↦ refl | ListError.Index i ↦ refl | ListError.Columns o ↦ refl ];
+}
+
+invert_errors : Refused invert_error_says
+unfolding invert_error_of accepts
+invert_errors = record {
+  of = invert_error_of;
+  back = elim [ InvertError.Room k ↦ refl | InvertError.Columns o ↦ refl ];
+  refuses = elim [ InvertError.Room k ↦ refl | InvertError.Columns o ↦ refl ];
+}
+
+pub read_refuses : (e : ReadError) → accepts (read_error_says e) ≡ false
+read_refuses = read_errors.refuses
+
+pub list_refuses : (e : ListError) → accepts (list_error_says e) ≡ false
+list_refuses = list_errors.refuses
+
+-- How much of a list lent an answer keeps: as much as it gives.
+pub list_kept : (r : Result ℕ ListError) → result_unwrap_or r 0 ≡ kept 1 (answer_says (λ n. n ∷ []) list_error_says r)
+unfolding kept accepts
+list_kept (Ok n) = refl
+list_kept (Err e) = let z : eqb (list_error_says e ! 0) 0 ≡ false = list_refuses e in sym (rw z)
+
+-- So an answer is read off the number and values that it says, where its values are.
+answer_of : {A E : Type 0} → (List ℕ → A) → (List ℕ → E) → List ℕ → Result A E
+answer_of value refusal a = cond (accepts a) (Ok (value a)) (Err (refusal a))
+
+answer_back : {A E : Type 0} {values : A → List ℕ} {refused : E → List ℕ} (of : List ℕ → A) (errors : Refused refused) → ((x : A) → of (0 ∷ values x) ≡ x)
+    → (r : Result A E) → answer_of of errors.of (answer_says values refused r) ≡ r
+unfolding answer_of accepts
+answer_back of errors back (Ok x) = ap Ok (back x)
+answer_back of errors back (Err e) = rw (errors.refuses e) (ap (λ f. Err f) (errors.back e))
+
+-- No second answer satisfies a promise of this form.
+one_answer : {A E : Type 0} {values : A → List ℕ} {refused : E → List ℕ} (of : List ℕ → A) (errors : Refused refused) → ((x : A) → of (0 ∷ values x) ≡ x)
+    → (r r' : Result A E) → answer_says values refused r ≡ answer_says values refused r' → r ≡ r'
+one_answer of errors back = same _ (answer_of of errors.of) (answer_back of errors back)
+
+-- a number, or none
+number_at : List ℕ → Option ℕ
+number_at a = cond (eqb (length a) 1) None (Some (a ! 1))
+
+label_at : List ℕ → Option Label
+label_at a = cond (eqb (length a) 1) None (Some (record { 0 = a ! 1 }))
+
+number_back : (x : Option ℕ) → number_at (0 ∷ found_values x) ≡ x
+unfolding number_at
+number_back None = refl
+number_back (Some n) = refl
+
+label_back : (x : Option Label) → label_at (0 ∷ label_values x) ≡ x
+unfolding label_at
+label_back None = refl
+label_back (Some l) = refl
+
+abbrev span_at : List ℕ → Span
+span_at a = record { start = a ! 1; end = a ! 2 }
+
+-- Nor one of the checks, or of a build.
+pub one_checked : (r r' : Result ℕ Refusal) → checked_says r ≡ checked_says r' → r ≡ r'
+one_checked = one_answer (λ a. a ! 1) refusals (λ x. refl)
+
+pub one-built : (r r' : Result Counts Refusal) → built_says r ≡ built_says r' → r ≡ r'
+one-built = one_answer (λ a. record { edges = a ! 1; weak = a ! 2; roots = a ! 3; long = a ! 4; fields = a ! 5; escapes = a ! 6; dangling = a ! 7 }) refusals (λ x. refl)
 
 -- Nor one of a question.
-span_from : List ℕ → Span
-span_from a = cond (eqb (a ! 0) 0) (Span.Edges (a ! 1) (a ! 2)) (cond (eqb (a ! 0) 11) (Span.Index (a ! 1)) (Span.Columns (a ! 1)))
+pub one_span : (r r' : Result Span ReadError) → span_says r ≡ span_says r' → r ≡ r'
+one_span = one_answer span_at read_errors (λ x. refl)
 
-span-back : (r : Span) → span_from (span_says r) ≡ r
-unfolding span_from
-span-back (Span.Edges x y) = refl
-span-back (Span.Index i) = refl
-span-back (Span.Columns o) = refl
+pub one-edge_count : (r r' : Result ℕ ReadError) → edge_count_says r ≡ edge_count_says r' → r ≡ r'
+one-edge_count = one_answer (λ a. a ! 1) read_errors (λ x. refl)
 
-pub one_span : (r r' : Span) → span_says r ≡ span_says r' → r ≡ r'
-one_span = same span_says span_from span-back
+pub one-coarse : (r r' : Result Label ReadError) → coarse_says r ≡ coarse_says r' → r ≡ r'
+one-coarse = one_answer (λ a. record { 0 = a ! 1 }) read_errors (λ x. refl)
 
-edge_count_from : List ℕ → EdgeCount
-edge_count_from a = cond (eqb (a ! 0) 0) (EdgeCount.Edges (a ! 1)) (cond (eqb (a ! 0) 11) (EdgeCount.Index (a ! 1)) (EdgeCount.Columns (a ! 1)))
+pub one_exact : (r r' : Result Label ReadError) → exact_says r ≡ exact_says r' → r ≡ r'
+one_exact = one_answer (λ a. record { 0 = a ! 1 }) read_errors (λ x. refl)
 
-edge_count-back : (r : EdgeCount) → edge_count_from (edge_count_says r) ≡ r
-unfolding edge_count_from
-edge_count-back (EdgeCount.Edges x) = refl
-edge_count-back (EdgeCount.Index i) = refl
-edge_count-back (EdgeCount.Columns o) = refl
+pub one-label_of : (r r' : Result (Option Label) ReadError) → label_of_says r ≡ label_of_says r' → r ≡ r'
+one-label_of = one_answer label_at read_errors label_back
 
-pub one-edge_count : (r r' : EdgeCount) → edge_count_says r ≡ edge_count_says r' → r ≡ r'
-one-edge_count = same edge_count_says edge_count_from edge_count-back
+pub one_field : (r r' : Result (Option ℕ) ReadError) → field_says r ≡ field_says r' → r ≡ r'
+one_field = one_answer number_at read_errors number_back
 
-coarse_from : List ℕ → CoarseLabel
-coarse_from a = cond (eqb (a ! 0) 0) (CoarseLabel.Is (record { 0 = a ! 1 })) (cond (eqb (a ! 0) 11) (CoarseLabel.Index (a ! 1)) (CoarseLabel.Columns (a ! 1)))
+pub one-referent : (r r' : Result (Option ℕ) ReadError) → referent_says r ≡ referent_says r' → r ≡ r'
+one-referent = one_answer number_at read_errors number_back
 
-coarse-back : (r : CoarseLabel) → coarse_from (coarse_says r) ≡ r
-unfolding coarse_from
-coarse-back (CoarseLabel.Is x) = refl
-coarse-back (CoarseLabel.Index i) = refl
-coarse-back (CoarseLabel.Columns o) = refl
+pub one-weak : (r r' : Result Span ReadError) → weak_says r ≡ weak_says r' → r ≡ r'
+one-weak = one_answer span_at read_errors (λ x. refl)
 
-pub one-coarse : (r r' : CoarseLabel) → coarse_says r ≡ coarse_says r' → r ≡ r'
-one-coarse = same coarse_says coarse_from coarse-back
+pub one-object_edges : (r r' : Result ℕ ListError) → object_edges_says r ≡ object_edges_says r' → r ≡ r'
+one-object_edges = one_answer (λ a. a ! 1) list_errors (λ x. refl)
 
-exact_from : List ℕ → ExactLabel
-exact_from a = cond (eqb (a ! 0) 0) (ExactLabel.Is (record { 0 = a ! 1 })) (cond (eqb (a ! 0) 11) (ExactLabel.Index (a ! 1)) (ExactLabel.Columns (a ! 1)))
+pub one_each_field : (r r' : Result ℕ ListError) → each_field_says r ≡ each_field_says r' → r ≡ r'
+one_each_field = one_answer (λ a. a ! 1) list_errors (λ x. refl)
 
-exact_back_lem : (r : ExactLabel) → exact_from (exact_says r) ≡ r
-unfolding exact_from
-exact_back_lem (ExactLabel.Is x) = refl
-exact_back_lem (ExactLabel.Index i) = refl
-exact_back_lem (ExactLabel.Columns o) = refl
+pub one_inverted : (r r' : Result Inverse InvertError) → inverted_says r ≡ inverted_says r' → r ≡ r'
+one_inverted = one_answer (λ a. record { entries = a ! 1; long = a ! 2 }) invert_errors (λ x. refl)
 
-pub one_exact : (r r' : ExactLabel) → exact_says r ≡ exact_says r' → r ≡ r'
-one_exact = same exact_says exact_from exact_back_lem
-
-label_of_from : List ℕ → LabelOf
-label_of_from a =
-    cond (eqb (a ! 0) 0) (cond (eqb (length a) 1) LabelOf.Nothing (LabelOf.Is (record { 0 = a ! 1 })))
-    (cond (eqb (a ! 0) 11) (LabelOf.Index (a ! 1)) (LabelOf.Columns (a ! 1)))
-
-label_of-back : (r : LabelOf) → label_of_from (label_of_says r) ≡ r
-unfolding label_of_from
-label_of-back (LabelOf.Is x) = refl
-label_of-back LabelOf.Nothing = refl
-label_of-back (LabelOf.Index i) = refl
-label_of-back (LabelOf.Columns o) = refl
-
-pub one-label_of : (r r' : LabelOf) → label_of_says r ≡ label_of_says r' → r ≡ r'
-one-label_of = same label_of_says label_of_from label_of-back
-
-field_from : List ℕ → Field
-field_from a =
-    cond (eqb (a ! 0) 0) (cond (eqb (length a) 1) Field.Nothing (Field.Target (a ! 1))) (cond (eqb (a ! 0) 11) (Field.Index (a ! 1)) (Field.Columns (a ! 1)))
-
-field_back_lem : (r : Field) → field_from (field_says r) ≡ r
-unfolding field_from
-field_back_lem (Field.Target x) = refl
-field_back_lem Field.Nothing = refl
-field_back_lem (Field.Index i) = refl
-field_back_lem (Field.Columns o) = refl
-
-pub one_field : (r r' : Field) → field_says r ≡ field_says r' → r ≡ r'
-one_field = same field_says field_from field_back_lem
-
-referent_from : List ℕ → Referent
-referent_from a =
-    cond (eqb (a ! 0) 0) (cond (eqb (length a) 1) Referent.Nothing (Referent.Target (a ! 1)))
-    (cond (eqb (a ! 0) 11) (Referent.Index (a ! 1)) (Referent.Columns (a ! 1)))
-
-referent-back : (r : Referent) → referent_from (referent_says r) ≡ r
-unfolding referent_from
-referent-back (Referent.Target x) = refl
-referent-back Referent.Nothing = refl
-referent-back (Referent.Index i) = refl
-referent-back (Referent.Columns o) = refl
-
-pub one-referent : (r r' : Referent) → referent_says r ≡ referent_says r' → r ≡ r'
-one-referent = same referent_says referent_from referent-back
-
-weak_from : List ℕ → WeakReferents
-weak_from a = cond (eqb (a ! 0) 0) (WeakReferents.Rows (a ! 1) (a ! 2)) (cond (eqb (a ! 0) 11) (WeakReferents.Index (a ! 1)) (WeakReferents.Columns (a ! 1)))
-
-weak-back : (r : WeakReferents) → weak_from (weak_says r) ≡ r
-unfolding weak_from
-weak-back (WeakReferents.Rows x y) = refl
-weak-back (WeakReferents.Index i) = refl
-weak-back (WeakReferents.Columns o) = refl
-
-pub one-weak : (r r' : WeakReferents) → weak_says r ≡ weak_says r' → r ≡ r'
-one-weak = same weak_says weak_from weak-back
-
-object_edges_from : List ℕ → ObjectEdges
-object_edges_from a =
-    cond (eqb (a ! 0) 0) (ObjectEdges.Edges (a ! 1))
-    (cond (eqb (a ! 0) 9) (ObjectEdges.Room (a ! 1)) (cond (eqb (a ! 0) 11) (ObjectEdges.Index (a ! 1)) (ObjectEdges.Columns (a ! 1))))
-
-object_edges-back : (r : ObjectEdges) → object_edges_from (object_edges_says r) ≡ r
-unfolding object_edges_from
-object_edges-back (ObjectEdges.Edges n) = refl
-object_edges-back (ObjectEdges.Room k) = refl
-object_edges-back (ObjectEdges.Index i) = refl
-object_edges-back (ObjectEdges.Columns o) = refl
-
-pub one-object_edges : (r r' : ObjectEdges) → object_edges_says r ≡ object_edges_says r' → r ≡ r'
-one-object_edges = same object_edges_says object_edges_from object_edges-back
-
-each_field_from : List ℕ → EachField
-each_field_from a =
-    cond (eqb (a ! 0) 0) (EachField.Done (a ! 1))
-    (cond (eqb (a ! 0) 9) (EachField.Room (a ! 1)) (cond (eqb (a ! 0) 11) (EachField.Index (a ! 1)) (EachField.Columns (a ! 1))))
-
-each_field_back : (r : EachField) → each_field_from (each_field_says r) ≡ r
-unfolding each_field_from
-each_field_back (EachField.Done n) = refl
-each_field_back (EachField.Room k) = refl
-each_field_back (EachField.Index i) = refl
-each_field_back (EachField.Columns i) = refl
-
-pub one_each_field : (r r' : EachField) → each_field_says r ≡ each_field_says r' → r ≡ r'
-one_each_field = same each_field_says each_field_from each_field_back
-
-inverted_from : List ℕ → Inverted
-inverted_from a = cond (eqb (a ! 0) 0) (Inverted.Done (a ! 1) (a ! 2)) (cond (eqb (a ! 0) 9) (Inverted.Room (a ! 1)) (Inverted.Columns (a ! 1)))
-
-inverted_back : (r : Inverted) → inverted_from (inverted_says r) ≡ r
-unfolding inverted_from
-inverted_back (Inverted.Done n l) = refl
-inverted_back (Inverted.Room k) = refl
-inverted_back (Inverted.Columns o) = refl
-
-pub one_inverted : (r r' : Inverted) → inverted_says r ≡ inverted_says r' → r ≡ r'
-one_inverted = same inverted_says inverted_from inverted_back
-
-entry_from : List ℕ → Entry
-entry_from a = cond (eqb (a ! 0) 0) (Entry.Edge (a ! 1) (a ! 2)) (cond (eqb (a ! 0) 11) (Entry.Index (a ! 1)) (Entry.Columns (a ! 1)))
-
-entry-back : (r : Entry) → entry_from (entry_says r) ≡ r
-unfolding entry_from
-entry-back (Entry.Edge s p) = refl
-entry-back (Entry.Index i) = refl
-entry-back (Entry.Columns o) = refl
-
-pub one_entry : (r r' : Entry) → entry_says r ≡ entry_says r' → r ≡ r'
-one_entry = same entry_says entry_from entry-back
+pub one_entry : (r r' : Result Entry ReadError) → entry_says r ≡ entry_says r' → r ≡ r'
+one_entry = one_answer (λ a. record { source = a ! 1; place = a ! 2 }) read_errors (λ x. refl)
 
 -- Where a question's answer is not COLUMNS, what it promises is that answer alone.
 pub one_promise : {o : ℕ} {says says' answer : List ℕ} → eqb (answer ! 0) 12 ≡ false → Promised o says answer → Promised o says' answer → says ≡ says'

@@ -17,7 +17,9 @@ use Rattle.rules.specs.Needs.{Lent, Rooms, fields_for, label_columns, need_long,
 use Rattle.rules.specs.Verdict.{counts, build_says}
 use Rattle.rules.specs.Built.{CodedLeft, coded_left, used_blocks, used_labels, used_columns, build_left, BuildLeft, PartsLeft, parts_left}
 use Rattle.rules.specs.Questions.{Columns, columns_of}
-use Rattle.rules.specs.declared.Built.{Built}
+use Rattle.std.specs.Prelude.{Result}
+use Rattle.rules.specs.declared.Counts.{Counts}
+use Rattle.rules.specs.declared.Refusal.{Refusal}
 use Rattle.rules.specs.Types.{built_says}
 use Rattle.rules.specs.Parts.{parts_says}
 use Rattle.rules.proofs.Types.{one-built}
@@ -133,12 +135,12 @@ unfolding build_left leaves
 refused_left x r e = rw (refused_coded (build_says x r) e x.schema (graph x) r.coded, e)
 
 -- No second outcome satisfies a build's promise: the answer's number and values, and all that is left.
-pub one_build : (x : Input) (rooms : Rooms) {r r' : Built} {b b' : BuildLeft} → built_says r ≡ build_says x rooms → b ≡ build_left x rooms
+pub one_build : (x : Input) (rooms : Rooms) {r r' : Result Counts Refusal} {b b' : BuildLeft} → built_says r ≡ build_says x rooms → b ≡ build_left x rooms
     → built_says r' ≡ build_says x rooms
     → b' ≡ build_left x rooms → (r ≡ r') × (b ≡ b')
 one_build x rooms {r} {r'} e f e' f' = (one-built r r' (e ∙ sym e'), f ∙ sym f')
 
-pub one-parts : (s : Schema) (p : Parts) (l : Lent) {r r' : Built} {b b' : PartsLeft} → built_says r ≡ parts_says s p l → b ≡ parts_left s p l
+pub one-parts : (s : Schema) (p : Parts) (l : Lent) {r r' : Result Counts Refusal} {b b' : PartsLeft} → built_says r ≡ parts_says s p l → b ≡ parts_left s p l
     → built_says r' ≡ parts_says s p l
     → b' ≡ parts_left s p l → (r ≡ r') × (b ≡ b')
 one-parts s p l {r} {r'} e f e' f' = (one-built r r' (e ∙ sym e'), f ∙ sym f')

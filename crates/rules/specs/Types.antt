@@ -1,36 +1,16 @@
 -- What the types of src/ mean in document 01's numbers: labels, the policy, refusals and answers. Assumes nothing.
-use Rattle.std.specs.Prelude.{ℕ, ◌+◌, ◌%◌, Bool, cond, List, [], ◌∷◌, eqb, leb}
+use Rattle.std.specs.Prelude.{ℕ, ◌+◌, ◌%◌, Bool, cond, List, [], ◌∷◌, Option, None, Some, Result, Ok, Err, eqb, leb}
 use Rattle.rules.specs.declared.ReferencePolicy.{ReferencePolicy}
 use Rattle.rules.specs.declared.Refusal.{Refusal}
-use Rattle.rules.specs.declared.Refusal.TheVariants as Refusal
-use Rattle.rules.specs.declared.Checked.{Checked}
-use Rattle.rules.specs.declared.Checked.TheVariants as Checked
-use Rattle.rules.specs.declared.Built.{Built}
-use Rattle.rules.specs.declared.Built.TheVariants as Built
+use Rattle.rules.specs.declared.Label.{Label}
+use Rattle.rules.specs.declared.Counts.{Counts}
 use Rattle.rules.specs.declared.Span.{Span}
-use Rattle.rules.specs.declared.Span.TheVariants as Span
-use Rattle.rules.specs.declared.EdgeCount.{EdgeCount}
-use Rattle.rules.specs.declared.EdgeCount.TheVariants as EdgeCount
-use Rattle.rules.specs.declared.CoarseLabel.{CoarseLabel}
-use Rattle.rules.specs.declared.CoarseLabel.TheVariants as CoarseLabel
-use Rattle.rules.specs.declared.ExactLabel.{ExactLabel}
-use Rattle.rules.specs.declared.ExactLabel.TheVariants as ExactLabel
-use Rattle.rules.specs.declared.LabelOf.{LabelOf}
-use Rattle.rules.specs.declared.LabelOf.TheVariants as LabelOf
-use Rattle.rules.specs.declared.Field.{Field}
-use Rattle.rules.specs.declared.Field.TheVariants as Field
-use Rattle.rules.specs.declared.Referent.{Referent}
-use Rattle.rules.specs.declared.Referent.TheVariants as Referent
-use Rattle.rules.specs.declared.WeakReferents.{WeakReferents}
-use Rattle.rules.specs.declared.WeakReferents.TheVariants as WeakReferents
-use Rattle.rules.specs.declared.ObjectEdges.{ObjectEdges}
-use Rattle.rules.specs.declared.ObjectEdges.TheVariants as ObjectEdges
-use Rattle.rules.specs.declared.EachField.{EachField}
-use Rattle.rules.specs.declared.EachField.TheVariants as EachField
-use Rattle.rules.specs.declared.Inverted.{Inverted}
-use Rattle.rules.specs.declared.Inverted.TheVariants as Inverted
+use Rattle.rules.specs.declared.ListError.{ListError}
+use Rattle.rules.specs.declared.Inverse.{Inverse}
+use Rattle.rules.specs.declared.InvertError.{InvertError}
 use Rattle.rules.specs.declared.Entry.{Entry}
-use Rattle.rules.specs.declared.Entry.TheVariants as Entry
+use Rattle.store_read.specs.declared.ReadError.{ReadError}
+pub use Rattle.store_read.specs.Back.{read_error_says}
 
 -- "`LOADER` is 2,147,483,647 and `ARRAY_ELEMENT` is 2,147,483,648."
 abbrev pub loader_label : ℕ
@@ -65,77 +45,72 @@ refusal_says (Refusal.Parts c p) = 10 ∷ c ∷ p ∷ []
 refusal_says (Refusal.Index i) = 11 ∷ i ∷ []
 refusal_says (Refusal.Columns o) = 12 ∷ o ∷ []
 
-abbrev pub checked_says : Checked → List ℕ
-checked_says (Checked.Accepted p) = 0 ∷ p ∷ []
-checked_says (Checked.Refused r) = refusal_says r
+abbrev pub list_error_says : ListError → List ℕ
+list_error_says (ListError.Room k) = 9 ∷ k ∷ []
+list_error_says (ListError.Index i) = 11 ∷ i ∷ []
+list_error_says (ListError.Columns o) = 12 ∷ o ∷ []
 
-abbrev pub built_says : Built → List ℕ
-built_says (Built.Done c) = 0 ∷ c.edges ∷ c.weak ∷ c.roots ∷ c.long ∷ c.fields ∷ c.escapes ∷ c.dangling ∷ []
-built_says (Built.Refused r) = refusal_says r
+abbrev pub invert_error_says : InvertError → List ℕ
+invert_error_says (InvertError.Room k) = 9 ∷ k ∷ []
+invert_error_says (InvertError.Columns o) = 12 ∷ o ∷ []
+
+-- An answer: 0 and its values, or what is refused.
+abbrev pub answer_says : {A E : Type 0} → (A → List ℕ) → (E → List ℕ) → Result A E → List ℕ
+answer_says values refused (Ok a) = 0 ∷ values a
+answer_says values refused (Err e) = refused e
+
+-- the value, none where nothing is found
+abbrev pub found_values : Option ℕ → List ℕ
+found_values None = []
+found_values (Some a) = a ∷ []
+
+abbrev pub label_values : Option Label → List ℕ
+label_values None = []
+label_values (Some l) = l.0 ∷ []
+
+abbrev pub span_values : Span → List ℕ
+span_values s = s.start ∷ s.end ∷ []
+
+abbrev pub checked_says : Result ℕ Refusal → List ℕ
+checked_says = answer_says (λ p. p ∷ []) refusal_says
+
+abbrev pub built_says : Result Counts Refusal → List ℕ
+built_says = answer_says (λ c. c.edges ∷ c.weak ∷ c.roots ∷ c.long ∷ c.fields ∷ c.escapes ∷ c.dangling ∷ []) refusal_says
 
 -- The questions: the values, none where nothing is found; INDEX with the number asked; COLUMNS with the object.
-abbrev pub span_says : Span → List ℕ
-span_says (Span.Edges a b) = 0 ∷ a ∷ b ∷ []
-span_says (Span.Index i) = 11 ∷ i ∷ []
-span_says (Span.Columns o) = 12 ∷ o ∷ []
+abbrev pub span_says : Result Span ReadError → List ℕ
+span_says = answer_says span_values read_error_says
 
-abbrev pub edge_count_says : EdgeCount → List ℕ
-edge_count_says (EdgeCount.Edges n) = 0 ∷ n ∷ []
-edge_count_says (EdgeCount.Index i) = 11 ∷ i ∷ []
-edge_count_says (EdgeCount.Columns o) = 12 ∷ o ∷ []
+abbrev pub edge_count_says : Result ℕ ReadError → List ℕ
+edge_count_says = answer_says (λ n. n ∷ []) read_error_says
 
-abbrev pub coarse_says : CoarseLabel → List ℕ
-coarse_says (CoarseLabel.Is l) = 0 ∷ l.0 ∷ []
-coarse_says (CoarseLabel.Index i) = 11 ∷ i ∷ []
-coarse_says (CoarseLabel.Columns o) = 12 ∷ o ∷ []
+abbrev pub coarse_says : Result Label ReadError → List ℕ
+coarse_says = answer_says (λ l. l.0 ∷ []) read_error_says
 
-abbrev pub exact_says : ExactLabel → List ℕ
-exact_says (ExactLabel.Is l) = 0 ∷ l.0 ∷ []
-exact_says (ExactLabel.Index i) = 11 ∷ i ∷ []
-exact_says (ExactLabel.Columns o) = 12 ∷ o ∷ []
+abbrev pub exact_says : Result Label ReadError → List ℕ
+exact_says = answer_says (λ l. l.0 ∷ []) read_error_says
 
-abbrev pub label_of_says : LabelOf → List ℕ
-label_of_says (LabelOf.Is l) = 0 ∷ l.0 ∷ []
-label_of_says LabelOf.Nothing = 0 ∷ []
-label_of_says (LabelOf.Index i) = 11 ∷ i ∷ []
-label_of_says (LabelOf.Columns o) = 12 ∷ o ∷ []
+abbrev pub label_of_says : Result (Option Label) ReadError → List ℕ
+label_of_says = answer_says label_values read_error_says
 
-abbrev pub field_says : Field → List ℕ
-field_says (Field.Target t) = 0 ∷ t ∷ []
-field_says Field.Nothing = 0 ∷ []
-field_says (Field.Index i) = 11 ∷ i ∷ []
-field_says (Field.Columns o) = 12 ∷ o ∷ []
+abbrev pub field_says : Result (Option ℕ) ReadError → List ℕ
+field_says = answer_says found_values read_error_says
 
-abbrev pub referent_says : Referent → List ℕ
-referent_says (Referent.Target t) = 0 ∷ t ∷ []
-referent_says Referent.Nothing = 0 ∷ []
-referent_says (Referent.Index i) = 11 ∷ i ∷ []
-referent_says (Referent.Columns o) = 12 ∷ o ∷ []
+abbrev pub referent_says : Result (Option ℕ) ReadError → List ℕ
+referent_says = answer_says found_values read_error_says
 
-abbrev pub weak_says : WeakReferents → List ℕ
-weak_says (WeakReferents.Rows a b) = 0 ∷ a ∷ b ∷ []
-weak_says (WeakReferents.Index i) = 11 ∷ i ∷ []
-weak_says (WeakReferents.Columns o) = 12 ∷ o ∷ []
+abbrev pub weak_says : Result Span ReadError → List ℕ
+weak_says = answer_says span_values read_error_says
 
-abbrev pub object_edges_says : ObjectEdges → List ℕ
-object_edges_says (ObjectEdges.Edges n) = 0 ∷ n ∷ []
-object_edges_says (ObjectEdges.Room k) = 9 ∷ k ∷ []
-object_edges_says (ObjectEdges.Index i) = 11 ∷ i ∷ []
-object_edges_says (ObjectEdges.Columns o) = 12 ∷ o ∷ []
+abbrev pub object_edges_says : Result ℕ ListError → List ℕ
+object_edges_says = answer_says (λ n. n ∷ []) list_error_says
 
 -- Asked of a list (M-104): INDEX and COLUMNS with the position in the list.
-abbrev pub each_field_says : EachField → List ℕ
-each_field_says (EachField.Done n) = 0 ∷ n ∷ []
-each_field_says (EachField.Room k) = 9 ∷ k ∷ []
-each_field_says (EachField.Index i) = 11 ∷ i ∷ []
-each_field_says (EachField.Columns i) = 12 ∷ i ∷ []
+abbrev pub each_field_says : Result ℕ ListError → List ℕ
+each_field_says = answer_says (λ n. n ∷ []) list_error_says
 
-abbrev pub inverted_says : Inverted → List ℕ
-inverted_says (Inverted.Done n l) = 0 ∷ n ∷ l ∷ []
-inverted_says (Inverted.Room k) = 9 ∷ k ∷ []
-inverted_says (Inverted.Columns o) = 12 ∷ o ∷ []
+abbrev pub inverted_says : Result Inverse InvertError → List ℕ
+inverted_says = answer_says (λ i. i.entries ∷ i.long ∷ []) invert_error_says
 
-abbrev pub entry_says : Entry → List ℕ
-entry_says (Entry.Edge s p) = 0 ∷ s ∷ p ∷ []
-entry_says (Entry.Index i) = 11 ∷ i ∷ []
-entry_says (Entry.Columns o) = 12 ∷ o ∷ []
+abbrev pub entry_says : Result Entry ReadError → List ℕ
+entry_says = answer_says (λ e. e.source ∷ e.place ∷ []) read_error_says

@@ -2,8 +2,10 @@
 #![tactic(auto)]
 
 ghost use Rattle.std.specs.Prelude.{◌≡◌};
-ghost use Rattle.rules.specs.Types.{loader_label, element_label, is_element, keeps, built_says};
-ghost use Rattle.columns.specs.Columns.{accepts};
+ghost use Rattle.store_read.specs.Back.{read_error_says};
+ghost use Rattle.rules.specs.Types.{loader_label, element_label, is_element, keeps, list_error_says};
+
+pub use store_read::ReadError;
 
 // A field's label is its name; the loader and the elements come behind all names.
 #[derive(Clone, Copy)]
@@ -40,34 +42,23 @@ impl Label {
     }
 }
 
-// The kinds of objects, as the column holds them.
+// The kinds of objects. A column holds them as these numbers, in this order from 0.
 #[derive(Clone, Copy)]
-pub struct Kind(pub u8);
-
-impl Kind {
-    pub const INSTANCE: u8 = 0;
-
-    pub const OBJECT_ARRAY: u8 = 1;
-
-    pub const PRIMITIVE_ARRAY: u8 = 2;
-
-    pub const CLASS: u8 = 3;
+pub enum Kind {
+    Instance,
+    ObjectArray,
+    PrimitiveArray,
+    Class,
 }
 
-// The reference kinds of classes, as the column holds them.
+// The reference kinds of classes, likewise.
 #[derive(Clone, Copy)]
-pub struct RefKind(pub u8);
-
-impl RefKind {
-    pub const NONE: u8 = 0;
-
-    pub const SOFT: u8 = 1;
-
-    pub const WEAK: u8 = 2;
-
-    pub const PHANTOM: u8 = 3;
-
-    pub const FINAL: u8 = 4;
+pub enum RefKind {
+    None,
+    Soft,
+    Weak,
+    Phantom,
+    Final,
 }
 
 // Which referents count as strongly held.
@@ -81,7 +72,7 @@ impl ReferencePolicy {
     pub fn keeps(self, kind: u8) -> bool
         ensures { result ≡ keeps self kind }
     {
-        if kind == RefKind::SOFT {
+        if kind == RefKind::Soft as u8 {
             self.soft
         } else {
             self.weak
@@ -89,7 +80,7 @@ impl ReferencePolicy {
     }
 }
 
-// One case for each refusal number, with its place.
+// One case for each refusal number, with its place. The checks answer the places of an input that may be built, or this; a build its counts, or this.
 #[derive(Clone, Copy)]
 pub enum Refusal {
     Lengths,
@@ -106,13 +97,6 @@ pub enum Refusal {
     Columns(usize),
 }
 
-// What the checks answer: the places of an input that may be built.
-#[derive(Clone, Copy)]
-pub enum Checked {
-    Accepted(usize),
-    Refused(Refusal),
-}
-
 // The used lengths that a build returns, and how many ids no object has.
 #[derive(Clone, Copy)]
 pub struct Counts {
@@ -125,112 +109,48 @@ pub struct Counts {
     pub dangling: u64,
 }
 
+// Where the edges of an object sit in the target column, or its pairs among the weak pairs.
 #[derive(Clone, Copy)]
-pub enum Built {
-    Done(Counts),
-    Refused(Refusal),
+pub struct Span {
+    pub start: usize,
+    pub end: usize,
 }
 
-// The answers to the questions, one type for each.
+// What a question refuses that writes into lists lent: too little room, or what reading the columns back refuses.
 #[derive(Clone, Copy)]
-pub enum Span {
-    Edges { start: usize, end: usize },
-    Index(usize),
-    Columns(usize),
-}
-
-#[derive(Clone, Copy)]
-pub enum EdgeCount {
-    Edges(usize),
-    Index(usize),
-    Columns(usize),
-}
-
-#[derive(Clone, Copy)]
-pub enum CoarseLabel {
-    Is(Label),
-    Index(usize),
-    Columns(usize),
-}
-
-#[derive(Clone, Copy)]
-pub enum ExactLabel {
-    Is(Label),
-    Index(usize),
-    Columns(usize),
-}
-
-#[derive(Clone, Copy)]
-pub enum LabelOf {
-    Is(Label),
-    Nothing,
-    Index(usize),
-    Columns(usize),
-}
-
-#[derive(Clone, Copy)]
-pub enum Field {
-    Target(u32),
-    Nothing,
-    Index(usize),
-    Columns(usize),
-}
-
-#[derive(Clone, Copy)]
-pub enum Referent {
-    Target(u32),
-    Nothing,
-    Index(usize),
-    Columns(usize),
-}
-
-// The rows of the weak pairs that are the object's.
-#[derive(Clone, Copy)]
-pub enum WeakReferents {
-    Rows { start: usize, end: usize },
-    Index(usize),
-    Columns(usize),
-}
-
-// How many edges of the object were written.
-#[derive(Clone, Copy)]
-pub enum ObjectEdges {
-    Edges(usize),
+pub enum ListError {
     Room(usize),
     Index(usize),
     Columns(usize),
 }
 
-// What a question asked of each object of a list answers: how many were asked; or the position in the list at which it was refused.
-#[derive(Clone, Copy)]
-pub enum EachField {
-    Done(usize),
-    Room(usize),
-    Index(usize),
-    Columns(usize),
+impl From<ReadError> for ListError {
+    ghost from_gives = { λ e l. list_error_says l ≡ read_error_says e };
+
+    fn from(e: ReadError) -> ListError {
+        match e {
+            ReadError::Index(i) => ListError::Index(i),
+            ReadError::Columns(o) => ListError::Columns(o),
+        }
+    }
 }
 
-// What inverting answers: how many entries and long rows there are.
+// How many entries and long rows there are after inverting.
 #[derive(Clone, Copy)]
-pub enum Inverted {
-    Done { entries: usize, long: usize },
+pub struct Inverse {
+    pub entries: usize,
+    pub long: usize,
+}
+
+#[derive(Clone, Copy)]
+pub enum InvertError {
     Room(usize),
     Columns(usize),
 }
 
 // An entry of an object: the object that refers to it, and the place of the edge in the target column.
 #[derive(Clone, Copy)]
-pub enum Entry {
-    Edge { source: u32, place: u32 },
-    Index(usize),
-    Columns(usize),
-}
-
-pub fn accepted(b: Built) -> bool
-    ensures { result ≡ accepts (built_says b) }
-{
-    match b {
-        Built::Done(_) => true,
-        Built::Refused(_) => false,
-    }
+pub struct Entry {
+    pub source: u32,
+    pub place: u32,
 }

@@ -1,58 +1,55 @@
 // The graph handed over by its plain columns, in lent columns of the rooms that the case names, and what is left in them.
-//
-// The columns are lent for good: a function here answers one of them at the lifetime of all, so that nothing has to be proved of how the others come back.
-// What the call says goes into lent numbers, those of document 01 behind their count.
 use crate::checks::first;
 use crate::{answer, names};
 use case_text::arrays::{EDGES, NAMED, room};
-use case_text::column::{used_u32, used_u64};
-use case_text::lists::{of_u8, of_u32, of_u64};
+use case_text::column::used;
+use case_text::lists::of;
 use case_text::{arrays, column};
-use labels::EdgeLabel;
+use labels::Codes;
+use rules::{Counts, Refusal};
 use std::io;
 
 const ROWS: usize = 8;
 
-fn hand<'a, 'b>(
-    bytes: &'a [u8],
-    halves: &'a [u32],
-    words: &'a [u64],
-    cuts: &'a [usize],
-    says: &mut [u64; 9],
-    bases: &'b mut [u64],
-    short: &'b mut [u16],
-    long_at: &'b mut [u32],
-    long_value: &'b mut [u64],
-    fields: &'b mut [u32],
-    table: &'b mut [u16],
-    escape_at: &'b mut [u64],
-    escape_label: &'b mut [u32],
-    codes: &'b mut [u16],
-    counting: &'b mut [u64],
-    ranking: &'b mut [u64],
-) -> &'b [u64] {
-    let b = from_parts::from_parts(
-        of_u64(words, cuts, names::CLASS_IDS),
-        of_u64(words, cuts, names::LOADERS),
-        of_u8(bytes, cuts, names::DUMPED),
-        of_u8(bytes, cuts, names::CLASS_KINDS),
-        of_u32(halves, cuts, names::SLOT_STARTS),
-        of_u32(halves, cuts, names::SLOT_ENDS),
-        of_u32(halves, cuts, names::STATIC_STARTS),
-        of_u32(halves, cuts, names::STATIC_ENDS),
-        of_u32(halves, cuts, names::SLOT_OFFSETS),
-        of_u32(halves, cuts, names::SLOT_LABELS),
-        of_u8(bytes, cuts, names::SLOT_WEAK),
-        of_u32(halves, cuts, names::STATIC_NAMES),
-        of_u8(bytes, cuts, names::STATIC_TYPES),
-        of_u64(words, cuts, names::STATIC_VALUES),
+fn hand(
+    bytes: &[u8],
+    halves: &[u32],
+    words: &[u64],
+    cuts: &[usize],
+    bases: &mut [u64],
+    short: &mut [u16],
+    long_at: &mut [u32],
+    long_value: &mut [u64],
+    fields: &mut [u32],
+    table: &mut [u16],
+    escape_at: &mut [u64],
+    escape_label: &mut [u32],
+    codes: &mut [u16],
+    counting: &mut [u64],
+    ranking: &mut [u64],
+) -> Result<Counts, Refusal> {
+    from_parts::from_parts(
+        of(words, cuts, names::CLASS_IDS),
+        of(words, cuts, names::LOADERS),
+        of(bytes, cuts, names::DUMPED),
+        of(bytes, cuts, names::CLASS_KINDS),
+        of(halves, cuts, names::SLOT_STARTS),
+        of(halves, cuts, names::SLOT_ENDS),
+        of(halves, cuts, names::STATIC_STARTS),
+        of(halves, cuts, names::STATIC_ENDS),
+        of(halves, cuts, names::SLOT_OFFSETS),
+        of(halves, cuts, names::SLOT_LABELS),
+        of(bytes, cuts, names::SLOT_WEAK),
+        of(halves, cuts, names::STATIC_NAMES),
+        of(bytes, cuts, names::STATIC_TYPES),
+        of(words, cuts, names::STATIC_VALUES),
         first(words, cuts, names::NAMES) as usize,
-        of_u64(words, cuts, names::OFFSETS),
-        of_u32(halves, cuts, names::TARGETS),
-        of_u32(halves, cuts, names::LABELS),
-        of_u32(halves, cuts, names::WEAK_FROM),
-        of_u32(halves, cuts, names::WEAK_TO),
-        of_u32(halves, cuts, names::ROOTS_OUT),
+        of(words, cuts, names::OFFSETS),
+        of(halves, cuts, names::TARGETS),
+        of(halves, cuts, names::LABELS),
+        of(halves, cuts, names::WEAK_FROM),
+        of(halves, cuts, names::WEAK_TO),
+        of(halves, cuts, names::ROOTS_OUT),
         first(words, cuts, names::DANGLING),
         bases,
         short,
@@ -65,109 +62,69 @@ fn hand<'a, 'b>(
         codes,
         counting,
         ranking,
-    );
-    *says = answer_builds::built(b);
-    bases
-}
-
-fn is(answer: EdgeLabel, label: u32) -> bool {
-    match answer {
-        EdgeLabel::Is(l) => l == label,
-        EdgeLabel::Bad => false,
-    }
+    )
 }
 
 // How many labels of the object whose edges are from one place up to another are read back.
-fn count_read(
-    labels: &[u32],
-    codes: &[u16],
-    from: usize,
-    to: usize,
-    fields: &[u32],
-    escape_at: &[u64],
-    escape_label: &[u32],
-) -> usize {
-    if labels.len() < to {
-        return 0;
-    }
-    if codes.len() < to {
+fn count_read(labels: &[u32], codes: Codes<'_>, from: usize, to: usize) -> usize {
+    if labels.len() < to || codes.codes.len() < to {
         return 0;
     }
     let mut same = 0;
-    let mut e = from;
-    while e < to {
-        if is(
-            labels::read::exact(codes, from, e - from, fields, escape_at, escape_label),
-            labels[e],
-        ) {
+    for e in from..to {
+        let read = codes.exact(from, e - from);
+        if read.is_ok_and(|l| l.0 == labels[e]) {
             same += 1;
-            e += 1;
-        } else {
-            e += 1;
         }
     }
     same
 }
 
 // Of each object, how many of its labels are read back from their codes.
-fn read_back(
-    rt: &impl Print,
-    offsets: &[u64],
-    labels: &[u32],
-    fields: &[u32],
-    escape_at: &[u64],
-    escape_label: &[u32],
-    codes: &[u16],
-) -> io::Result<()> {
-    print::word(rt, b"  read back")?;
-    let mut o = 1;
-    while o < offsets.len() {
+fn read_back(rt: &impl Print, offsets: &[u64], labels: &[u32], codes: Codes<'_>) -> io::Result<()> {
+    print!(rt; "  read back")?;
+    for o in 1..offsets.len() {
         let from = offsets[o - 1] as usize;
         let to = offsets[o] as usize;
-        print::word(rt, b" ")?;
-        print::number(
-            rt,
-            count_read(labels, codes, from, to, fields, escape_at, escape_label) as u64,
-        )?;
-        o += 1;
+        let same = count_read(labels, codes, from, to);
+        print!(rt; " {same}")?;
     }
-    print::word(rt, b"\n")?;
-    Ok(())
+    println!(rt)
 }
 
 // After an acceptance.
-fn read<'a>(
+fn read(
     rt: &impl Print,
-    says: [u64; 9],
-    halves: &'a [u32],
-    words: &'a [u64],
-    cuts: &'a [usize],
+    c: Counts,
+    halves: &[u32],
+    words: &[u64],
+    cuts: &[usize],
     fields: &[u32],
     escape_at: &[u64],
     escape_label: &[u32],
     codes: &[u16],
 ) -> io::Result<()> {
-    if says[1] != 0 {
-        return Ok(());
-    }
+    let codes = Codes {
+        codes,
+        fields: used(fields, c.fields),
+        escape_at: used(escape_at, c.escapes),
+        escape_label: used(escape_label, c.escapes),
+    };
     read_back(
         rt,
-        of_u64(words, cuts, names::OFFSETS),
-        of_u32(halves, cuts, names::LABELS),
-        used_u32(fields, says[6] as usize),
-        used_u64(escape_at, says[7] as usize),
-        used_u32(escape_label, says[7] as usize),
+        of(words, cuts, names::OFFSETS),
+        of(halves, cuts, names::LABELS),
         codes,
     )
 }
 
 // What is left in the columns.
-fn left<'a>(
+fn left(
     rt: &impl Print,
-    says: [u64; 9],
-    halves: &'a [u32],
-    words: &'a [u64],
-    cuts: &'a [usize],
+    answer: Result<Counts, Refusal>,
+    halves: &[u32],
+    words: &[u64],
+    cuts: &[usize],
     bases: &[u64],
     short: &[u16],
     long_at: &[u32],
@@ -180,47 +137,48 @@ fn left<'a>(
     counting: &[u64],
     ranking: &[u64],
 ) -> io::Result<()> {
-    answer::built(rt, says)?;
+    answer::built(rt, answer)?;
     column::offset_columns(rt, bases, short, long_at, long_value, fields, table)?;
     column::code_columns(rt, escape_at, escape_label, codes, counting, ranking)?;
-    read(
-        rt,
-        says,
-        halves,
-        words,
-        cuts,
-        fields,
-        escape_at,
-        escape_label,
-        codes,
-    )
+    match answer {
+        Ok(c) => read(
+            rt,
+            c,
+            halves,
+            words,
+            cuts,
+            fields,
+            escape_at,
+            escape_label,
+            codes,
+        ),
+        Err(_) => Ok(()),
+    }
 }
 
-fn show<'a, 'b>(
+fn show(
     rt: &impl Print,
-    bytes: &'a [u8],
-    halves: &'a [u32],
-    words: &'a [u64],
-    cuts: &'a [usize],
-    bases: &'b mut [u64],
-    short: &'b mut [u16],
-    long_at: &'b mut [u32],
-    long_value: &'b mut [u64],
-    fields: &'b mut [u32],
-    table: &'b mut [u16],
-    escape_at: &'b mut [u64],
-    escape_label: &'b mut [u32],
-    codes: &'b mut [u16],
-    counting: &'b mut [u64],
-    ranking: &'b mut [u64],
-) -> io::Result<&'b [u64]> {
-    let mut says: [u64; 9] = [0; 9];
-    hand(
+    bytes: &[u8],
+    halves: &[u32],
+    words: &[u64],
+    cuts: &[usize],
+    bases: &mut [u64],
+    short: &mut [u16],
+    long_at: &mut [u32],
+    long_value: &mut [u64],
+    fields: &mut [u32],
+    table: &mut [u16],
+    escape_at: &mut [u64],
+    escape_label: &mut [u32],
+    codes: &mut [u16],
+    counting: &mut [u64],
+    ranking: &mut [u64],
+) -> io::Result<()> {
+    let answer = hand(
         bytes,
         halves,
         words,
         cuts,
-        &mut says,
         bases,
         short,
         long_at,
@@ -235,7 +193,7 @@ fn show<'a, 'b>(
     );
     left(
         rt,
-        says,
+        answer,
         halves,
         words,
         cuts,
@@ -250,19 +208,18 @@ fn show<'a, 'b>(
         codes,
         counting,
         ranking,
-    )?;
-    Ok(bases)
+    )
 }
 
 // The columns hold nines before.
-pub(crate) fn lend<'a>(
+pub(crate) fn lend(
     rt: &impl Print,
-    bytes: &'a [u8],
-    halves: &'a [u32],
-    words: &'a [u64],
-    cuts: &'a [usize],
+    bytes: &[u8],
+    halves: &[u32],
+    words: &[u64],
+    cuts: &[usize],
 ) -> io::Result<()> {
-    let rooms = of_u64(words, cuts, names::ROOMS);
+    let rooms = of(words, cuts, names::ROOMS);
     let bases_room = room(rooms, 0, ROWS);
     let short_room = room(rooms, 1, ROWS);
     let long_at_room = room(rooms, 2, ROWS);
@@ -278,13 +235,13 @@ pub(crate) fn lend<'a>(
     let mut short: [u16; ROWS] = [9; ROWS];
     let mut long_at: [u32; ROWS] = [9; ROWS];
     let mut long_value: [u64; ROWS] = [9; ROWS];
-    let mut fields = arrays::named_u32();
-    let mut table = arrays::named_u16();
-    let mut escape_at = arrays::named_u64();
-    let mut escape_label = arrays::named_u32();
-    let mut codes = arrays::edges_u16();
-    let mut counting = arrays::named_u64();
-    let mut ranking = arrays::named_u64();
+    let mut fields: [u32; NAMED] = arrays::filled(9);
+    let mut table: [u16; NAMED] = arrays::filled(9);
+    let mut escape_at: [u64; NAMED] = arrays::filled(9);
+    let mut escape_label: [u32; NAMED] = arrays::filled(9);
+    let mut codes: [u16; EDGES] = arrays::filled(9);
+    let mut counting: [u64; NAMED] = arrays::filled(9);
+    let mut ranking: [u64; NAMED] = arrays::filled(9);
     show(
         rt,
         bytes,
@@ -302,6 +259,5 @@ pub(crate) fn lend<'a>(
         &mut codes[..codes_room],
         &mut counting[..counting_room],
         &mut ranking[..ranking_room],
-    )?;
-    Ok(())
+    )
 }

@@ -11,10 +11,17 @@ mod hand;
 mod names;
 mod slots;
 
-use case_text::fault::Fault;
-use case_text::lists::{Listed, Used};
+use case_text::arrays::{BYTES, HALVES, NAMED, TEXT};
+use case_text::column::part;
+use case_text::fault::{Ended, Fault, Malformed};
+use case_text::lists::{Used, Width};
+use case_text::text::Mark;
 use case_text::{arrays, fault, input, lists, text};
+use names::{Call, Word};
 use std::io;
+
+// Where the lists of a case stand in their arenas.
+const CUTS: usize = 100;
 
 // Where the text goes on, and how much of the arenas is used: by the case, and by the lists that are kept.
 #[derive(Clone, Copy)]
@@ -24,149 +31,92 @@ struct State {
     kept: Used,
 }
 
-// The text goes on at a place; at its end nothing more is run.
-fn to(mut s: State, at: usize) -> State {
-    s.at = at;
-    s
-}
-
-fn copy(from: &[usize], to: &mut [usize]) {
-    let mut i = 0;
-    while i < to.len() {
-        if from.len() <= i {
-            return;
-        }
-        to[i] = from[i];
-        i += 1;
-    }
-}
-
-// A title as the text has it, on a line of its own or in front of what the case's calls write.
-fn written(rt: &impl Print, text: &[u8], start: usize, end: usize) -> io::Result<()> {
-    if end < start {
-        return Ok(());
-    }
-    if text.len() < end {
-        return Ok(());
-    }
-    print::word(rt, b"\n")?;
-    print::word(rt, &text[start..end])?;
-    Ok(())
-}
-
-// The case whose title begins at a place begins with the lists that are kept.
+// The case whose title begins at a place begins with the lists that are kept. The title is written as the text has it, on a line of its own or in front of what
+// the case's calls write.
 fn title(
     rt: &impl Print,
     text: &[u8],
-    s: State,
-    cuts: &mut [usize],
-    kept: &[usize],
-) -> io::Result<State> {
+    mut s: State,
+    cuts: &mut [usize; CUTS],
+    kept: &[usize; CUTS],
+) -> Result<State, Ended> {
     let start = text::behind(text, s.at);
-    let end = text::seek(text, start, text::TITLE);
+    let end = text::seek(text, start, Mark::Title);
     if text.len() <= end {
-        fault::tell(rt, Fault::TitleNotClosed, s.at)?;
-        return Ok(to(s, text.len()));
+        let why = Fault::TitleNotClosed;
+        return Err(Ended::from(Malformed { at: s.at, why }));
     }
-    written(rt, text, start, end)?;
-    copy(kept, cuts);
-    let used = s.kept;
-    Ok(State {
-        at: text::behind(text, end),
-        used,
-        kept: used,
-    })
+    println!(rt)?;
+    print::word(rt, part(text, start, end))?;
+    *cuts = *kept;
+    s.at = text::behind(text, end);
+    s.used = s.kept;
+    Ok(s)
 }
 
 // List k is the one behind the word that ends at `end`.
 fn list(
-    rt: &impl Print,
     text: &[u8],
     end: usize,
     k: usize,
-    s: State,
+    width: Width,
+    mut s: State,
     bytes: &mut [u8],
     halves: &mut [u32],
     words: &mut [u64],
     cuts: &mut [usize],
-) -> io::Result<State> {
-    let width = names::width(k);
-    let before = s.used;
-    let kept = s.kept;
-    match lists::next_list(text, end, bytes, halves, words, before, width) {
-        Listed::Done { next, used } => {
-            lists::cut(
-                cuts,
-                k,
-                lists::end_of(before, width),
-                lists::end_of(used, width),
-            );
-            Ok(State {
-                at: next,
-                used,
-                kept,
-            })
-        }
-        Listed::Bad { at, why } => {
-            fault::tell(rt, why, at)?;
-            Ok(to(s, text.len()))
-        }
-    }
+) -> Result<State, Malformed> {
+    let start = s.used.of(width);
+    let read = lists::next_list(text, end, bytes, halves, words, s.used, width)?;
+    lists::cut(cuts, k, start, read.used.of(width));
+    s.at = read.next;
+    s.used = read.used;
+    Ok(s)
 }
 
-fn call<'a>(
+fn call(
     rt: &impl Print,
-    k: usize,
-    bytes: &'a [u8],
-    halves: &'a [u32],
-    words: &'a [u64],
-    cuts: &'a [usize],
+    call: Call,
+    bytes: &[u8],
+    halves: &[u32],
+    words: &[u64],
+    cuts: &[usize],
 ) -> io::Result<()> {
-    match k {
-        names::COPIED => checks::copied(rt, bytes, halves, words, cuts, false)?,
-        names::WORKING => checks::copied(rt, bytes, halves, words, cuts, true)?,
-        names::RAW => checks::raw(rt, bytes, halves, words, cuts)?,
-        names::PARTS => checks::parts(rt, bytes, halves, words, cuts)?,
-        names::HAND => hand::lend(rt, bytes, halves, words, cuts)?,
-        names::COLUMNS => slots::lend(rt, bytes, halves, words, cuts, false)?,
-        names::ROWS => slots::lend(rt, bytes, halves, words, cuts, true)?,
-        _ => {
-            print::word(rt, b"; no such call")?;
-        }
-    }
-    Ok(())
-}
-
-fn keep(end: usize, s: State, cuts: &[usize], kept: &mut [usize]) -> State {
-    copy(cuts, kept);
-    let used = s.used;
-    State {
-        at: end,
-        used,
-        kept: used,
+    match call {
+        Call::Copied => checks::copied(rt, bytes, halves, words, cuts, false),
+        Call::Working => checks::copied(rt, bytes, halves, words, cuts, true),
+        Call::Raw => checks::raw(rt, bytes, halves, words, cuts),
+        Call::Parts => checks::parts(rt, bytes, halves, words, cuts),
+        Call::Hand => hand::lend(rt, bytes, halves, words, cuts),
+        Call::Columns => slots::lend(rt, bytes, halves, words, cuts, false),
+        Call::Rows => slots::lend(rt, bytes, halves, words, cuts, true),
     }
 }
 
 fn word(
     rt: &impl Print,
     text: &[u8],
-    s: State,
+    mut s: State,
     bytes: &mut [u8],
     halves: &mut [u32],
     words: &mut [u64],
-    cuts: &mut [usize],
-    kept: &mut [usize],
-) -> io::Result<State> {
+    cuts: &mut [usize; CUTS],
+    kept: &mut [usize; CUTS],
+) -> Result<State, Ended> {
     let end = names::end_of(text, s.at);
-    let k = names::number(text, s.at, end);
-    if k < names::LISTS {
-        return list(rt, text, end, k, s, bytes, halves, words, cuts);
+    match names::read_word(part(text, s.at, end)) {
+        Some(Word::List(k, width)) => {
+            return Ok(list(text, end, k, width, s, bytes, halves, words, cuts)?);
+        }
+        Some(Word::Call(c)) => call(rt, c, bytes, halves, words, cuts)?,
+        Some(Word::Keep) => {
+            *kept = *cuts;
+            s.kept = s.used;
+        }
+        None => print!(rt; "; no such call")?,
     }
-    if k == names::KEEP {
-        return Ok(keep(end, s, cuts, kept));
-    }
-    call(rt, k, bytes, halves, words, cuts)?;
-    Ok(to(s, end))
+    s.at = end;
+    Ok(s)
 }
 
 // The word or the title at a place.
@@ -177,9 +127,9 @@ fn one(
     bytes: &mut [u8],
     halves: &mut [u32],
     words: &mut [u64],
-    cuts: &mut [usize],
-    kept: &mut [usize],
-) -> io::Result<State> {
+    cuts: &mut [usize; CUTS],
+    kept: &mut [usize; CUTS],
+) -> Result<State, Ended> {
     if text::byte(text, s.at) == b'"' {
         return title(rt, text, s, cuts, kept);
     }
@@ -193,25 +143,18 @@ fn every(
     bytes: &mut [u8],
     halves: &mut [u32],
     words: &mut [u64],
-    cuts: &mut [usize],
-    kept: &mut [usize],
-) -> io::Result<()> {
-    let none = Used {
-        bytes: 0,
-        halves: 0,
-        words: 0,
-    };
+    cuts: &mut [usize; CUTS],
+    kept: &mut [usize; CUTS],
+) -> Result<(), Ended> {
     let mut s = State {
-        at: text::seek(text, 0, text::TITLE),
-        used: none,
-        kept: none,
+        at: text::seek(text, 0, Mark::Title),
+        used: Used::default(),
+        kept: Used::default(),
     };
-    let mut turn = 0;
-    while turn < text.len() {
-        turn += 1;
+    for _ in 0..text.len() {
         s.at = names::next(text, s.at);
         if text.len() <= s.at {
-            return Ok(());
+            break;
         }
         s = one(rt, text, s, bytes, halves, words, cuts, kept)?;
     }
@@ -220,15 +163,17 @@ fn every(
 
 // A text that fills its room may go on behind it.
 fn run(rt: &impl Print, text: &[u8]) -> io::Result<()> {
-    let mut bytes = arrays::bytes();
-    let mut halves = arrays::halves();
-    let mut words = arrays::named_u64();
-    let mut cuts: [usize; 100] = [0; 100];
-    let mut kept: [usize; 100] = [0; 100];
-    if arrays::TEXT <= text.len() {
-        return fault::tell(rt, Fault::TextTooLong, text.len());
+    let mut bytes: [u8; BYTES] = arrays::filled(0);
+    let mut halves: [u32; HALVES] = arrays::filled(0);
+    let mut words: [u64; NAMED] = arrays::filled(9);
+    let mut cuts: [usize; CUTS] = [0; CUTS];
+    let mut kept: [usize; CUTS] = [0; CUTS];
+    if TEXT <= text.len() {
+        let at = text.len();
+        let why = Fault::TextTooLong;
+        return println!(rt; "{}", Malformed { at, why });
     }
-    every(
+    let done = every(
         rt,
         text,
         &mut bytes,
@@ -236,13 +181,13 @@ fn run(rt: &impl Print, text: &[u8]) -> io::Result<()> {
         &mut words,
         &mut cuts,
         &mut kept,
-    )?;
-    print::word(rt, b"\n")?;
-    Ok(())
+    );
+    fault::tell(rt, done)?;
+    println!(rt)
 }
 
 fn main(rt: HostRuntime) -> io::Result<()> {
-    let mut room = arrays::text();
+    let mut room: [u8; TEXT] = arrays::filled(0);
     let n = input::read_full(&rt, &mut room)?;
     run(&rt, &room[..n])
 }

@@ -1,7 +1,8 @@
 // The words of the text: the lists of a case, by the width of their numbers, and what is done with them.
-use case_text::text;
+use case_text::lists::Width;
+use case_text::text::find;
 
-// Lists of 64 bits are numbered from 0 on, of 32 bits from 20 on, of 8 bits from 40 on.
+// The numbers of the lists: those of 64 bits from 0 on, of 32 bits from 20 on, of 8 bits from 40 on. There are no more than 50.
 pub(crate) const IDS: usize = 0;
 
 pub(crate) const CLASS_IDS: usize = 1;
@@ -78,179 +79,93 @@ pub(crate) const STATIC_TYPES: usize = 44;
 
 pub(crate) const BYTES: usize = 45;
 
-// There are no more lists than these; then what is done with a case.
-pub(crate) const LISTS: usize = 50;
-
-pub(crate) const COPIED: usize = 50;
-
-pub(crate) const RAW: usize = 51;
-
-pub(crate) const WORKING: usize = 52;
-
-pub(crate) const PARTS: usize = 53;
-
-pub(crate) const HAND: usize = 54;
-
-pub(crate) const COLUMNS: usize = 55;
-
-pub(crate) const ROWS: usize = 56;
-
-pub(crate) const KEEP: usize = 57;
-
-// No word of the text has this number.
-const NONE: usize = 100;
-
-// The width of a list's numbers.
-pub(crate) fn width(k: usize) -> u8 {
-    if k < 20 {
-        return 64;
-    }
-    if k < 40 {
-        return 32;
-    }
-    8
-}
-
-// A walk over a table of names: the number of the name, how far it is as the word, whether it is so to here, and the number of the name that is the word.
+// What is done with a case.
 #[derive(Clone, Copy)]
-struct Walk {
-    name: usize,
-    to: usize,
-    same: bool,
-    found: usize,
+pub(crate) enum Call {
+    Copied,
+    Raw,
+    Working,
+    Parts,
+    Hand,
+    Columns,
+    Rows,
 }
 
-fn more(k: usize) -> usize {
-    if k < NONE { k + 1 } else { k }
+#[derive(Clone, Copy)]
+pub(crate) enum Word {
+    List(usize, Width),
+    Call(Call),
+    Keep,
 }
 
-// The walk after a byte of the table. A space ends a name.
-fn walked(w: Walk, b: u8, text: &[u8], at: usize, end: usize) -> Walk {
-    if b != b' ' {
-        return Walk {
-            name: w.name,
-            to: text::behind(text, w.to),
-            same: w.same && text::byte(text, w.to) == b,
-            found: w.found,
-        };
+const WORDS: [(&str, Word); 46] = [
+    ("ids", Word::List(IDS, Width::Words)),
+    ("class_ids", Word::List(CLASS_IDS, Width::Words)),
+    ("loaders", Word::List(LOADERS, Width::Words)),
+    ("static_values", Word::List(STATIC_VALUES, Width::Words)),
+    ("escape_places", Word::List(ESCAPE_PLACES, Width::Words)),
+    ("escape_ids", Word::List(ESCAPE_IDS, Width::Words)),
+    ("body_starts", Word::List(BODY_STARTS, Width::Words)),
+    ("offsets", Word::List(OFFSETS, Width::Words)),
+    ("names", Word::List(NAMES, Width::Words)),
+    ("base", Word::List(BASE, Width::Words)),
+    ("size", Word::List(SIZE, Width::Words)),
+    ("policy", Word::List(POLICY, Width::Words)),
+    ("dangling", Word::List(DANGLING, Width::Words)),
+    ("rooms", Word::List(ROOMS, Width::Words)),
+    ("classes", Word::List(CLASSES, Width::Halves)),
+    ("lengths", Word::List(LENGTHS, Width::Halves)),
+    ("slot_starts", Word::List(SLOT_STARTS, Width::Halves)),
+    ("slot_ends", Word::List(SLOT_ENDS, Width::Halves)),
+    ("static_starts", Word::List(STATIC_STARTS, Width::Halves)),
+    ("static_ends", Word::List(STATIC_ENDS, Width::Halves)),
+    ("slot_offsets", Word::List(SLOT_OFFSETS, Width::Halves)),
+    ("slot_labels", Word::List(SLOT_LABELS, Width::Halves)),
+    ("static_names", Word::List(STATIC_NAMES, Width::Halves)),
+    ("codes", Word::List(CODES, Width::Halves)),
+    ("starts", Word::List(STARTS, Width::Halves)),
+    ("bodies", Word::List(BODIES, Width::Halves)),
+    ("roots", Word::List(ROOTS, Width::Halves)),
+    ("targets", Word::List(TARGETS, Width::Halves)),
+    ("labels", Word::List(LABELS, Width::Halves)),
+    ("weak_from", Word::List(WEAK_FROM, Width::Halves)),
+    ("weak_to", Word::List(WEAK_TO, Width::Halves)),
+    ("roots_out", Word::List(ROOTS_OUT, Width::Halves)),
+    ("kinds", Word::List(KINDS, Width::Bytes)),
+    ("dumped", Word::List(DUMPED, Width::Bytes)),
+    ("class_kinds", Word::List(CLASS_KINDS, Width::Bytes)),
+    ("slot_weak", Word::List(SLOT_WEAK, Width::Bytes)),
+    ("static_types", Word::List(STATIC_TYPES, Width::Bytes)),
+    ("bytes", Word::List(BYTES, Width::Bytes)),
+    ("copied", Word::Call(Call::Copied)),
+    ("raw", Word::Call(Call::Raw)),
+    ("working", Word::Call(Call::Working)),
+    ("parts", Word::Call(Call::Parts)),
+    ("hand", Word::Call(Call::Hand)),
+    ("columns", Word::Call(Call::Columns)),
+    ("rows", Word::Call(Call::Rows)),
+    ("keep", Word::Keep),
+];
+
+pub(crate) fn read_word(text: &[u8]) -> Option<Word> {
+    for (name, word) in WORDS {
+        if name.as_bytes() == text {
+            return Some(word);
+        }
     }
-    if w.same && w.to == end {
-        return Walk {
-            name: more(w.name),
-            to: at,
-            same: true,
-            found: w.name,
-        };
-    }
-    Walk {
-        name: more(w.name),
-        to: at,
-        same: true,
-        found: w.found,
-    }
-}
-
-// The place of a word in a table of names.
-fn place(table: &[u8], text: &[u8], at: usize, end: usize) -> usize {
-    let mut w = Walk {
-        name: 0,
-        to: at,
-        same: true,
-        found: NONE,
-    };
-    let mut i = 0;
-    while i < table.len() {
-        w = walked(w, table[i], text, at, end);
-        i += 1;
-    }
-    w.found
-}
-
-// The number of a place in the table that begins with the number `first`.
-fn from(first: usize, place: usize) -> usize {
-    if NONE <= place {
-        return NONE;
-    }
-    if NONE <= first {
-        return NONE;
-    }
-    first + place
-}
-
-fn least(k: usize, l: usize) -> usize {
-    if k < l { k } else { l }
-}
-
-fn of_list(text: &[u8], at: usize, end: usize) -> usize {
-    let k = place(
-        b"ids class_ids loaders static_values escape_places escape_ids body_starts offsets names base size policy dangling rooms ",
-        text,
-        at,
-        end,
-    );
-    let l = place(
-        b"classes lengths slot_starts slot_ends static_starts static_ends slot_offsets slot_labels static_names codes starts bodies roots targets labels weak_from weak_to roots_out ",
-        text,
-        at,
-        end,
-    );
-    let m = place(
-        b"kinds dumped class_kinds slot_weak static_types bytes ",
-        text,
-        at,
-        end,
-    );
-    least(k, least(from(20, l), from(40, m)))
-}
-
-// The number of a word.
-pub(crate) fn number(text: &[u8], at: usize, end: usize) -> usize {
-    let call = place(
-        b"copied raw working parts hand columns rows keep ",
-        text,
-        at,
-        end,
-    );
-    least(of_list(text, at, end), from(LISTS, call))
+    None
 }
 
 fn is_letter(b: u8) -> bool {
-    if b == b'_' {
-        return true;
-    }
-    if b < b'a' {
-        return false;
-    }
-    b <= b'z'
-}
-
-fn begins(b: u8) -> bool {
-    if b == b'"' {
-        return true;
-    }
-    is_letter(b)
+    b == b'_' || b.is_ascii_lowercase()
 }
 
 // Where the next word or title begins; the end of the text where there is none.
 pub(crate) fn next(text: &[u8], at: usize) -> usize {
-    let mut i = at;
-    while i < text.len() {
-        if begins(text[i]) {
-            return i;
-        }
-        i += 1;
-    }
-    text.len()
+    find(text, at, |b| b == b'"' || is_letter(b))
 }
 
 // Where the word that begins at a place ends.
 pub(crate) fn end_of(text: &[u8], at: usize) -> usize {
-    let mut i = at;
-    while i < text.len() {
-        if !is_letter(text[i]) {
-            return i;
-        }
-        i += 1;
-    }
-    text.len()
+    find(text, at, |b| !is_letter(b))
 }

@@ -4,8 +4,8 @@ ghost use Rattle.slot_rows.specs.Rows.{Filling};
 
 use crate::names;
 use case_text::arrays::room;
-use case_text::lists::{of_u8, of_u32, of_u64};
-use slot_rows::{Filled, SlotRow};
+use case_text::lists::of;
+use slot_rows::{FillError, SlotRow};
 use std::io;
 
 const ROWS: usize = 8;
@@ -17,7 +17,7 @@ fn fill_two(
     offsets: &mut [u32],
     labels: &mut [u32],
     weak: &mut [u8],
-) -> Filled
+) -> Result<usize, FillError>
     ensures { Filling (first ∷ second ∷ [])
         (length offsets.old) (length labels.old) (length weak.old)
         result offsets.new labels.new weak.new }
@@ -27,57 +27,18 @@ fn fill_two(
 
 // Row k of the case's slots; 0 in the columns that are shorter.
 fn row(offsets: &[u32], labels: &[u32], weak: &[u8], k: usize) -> SlotRow {
-    let mut r = SlotRow {
-        offset: 0,
-        label: 0,
-        weak: 0,
-    };
-    if k < offsets.len() {
-        r.offset = offsets[k];
+    SlotRow {
+        offset: offsets.get(k).copied().unwrap_or(0),
+        label: labels.get(k).copied().unwrap_or(0),
+        weak: weak.get(k).copied().unwrap_or(0),
     }
-    if k < labels.len() {
-        r.label = labels[k];
-    }
-    if k < weak.len() {
-        r.weak = weak[k];
-    }
-    r
 }
 
-fn answer(rt: &impl Print, r: Filled) -> io::Result<()> {
-    match r {
-        Filled::Done(n) => {
-            print::line(rt, b"; rows ", n as u64)?;
-        }
-        Filled::Room(k) => {
-            print::line(rt, b"; refused: ROOM, 9, buffer ", k as u64)?;
-        }
+fn answer(rt: &impl Print, filled: Result<usize, FillError>) -> io::Result<()> {
+    match filled {
+        Ok(rows) => println!(rt; "; rows {rows}"),
+        Err(FillError::Room(buffer)) => println!(rt; "; refused: ROOM, 9, buffer {buffer}"),
     }
-    Ok(())
-}
-
-fn next(rt: &impl Print, x: u8) -> io::Result<()> {
-    print::word(rt, b" ")?;
-    print::number(rt, x as u64)?;
-    Ok(())
-}
-
-fn flags(rt: &impl Print, xs: &[u8]) -> io::Result<()> {
-    let mut i = 0;
-    while i < xs.len() {
-        next(rt, xs[i])?;
-        i += 1;
-    }
-    Ok(())
-}
-
-fn columns(rt: &impl Print, offsets: &[u32], labels: &[u32], weak: &[u8]) -> io::Result<()> {
-    print::column_u32(rt, b"  offsets", offsets)?;
-    print::column_u32(rt, b"  labels", labels)?;
-    print::word(rt, b"  weak")?;
-    flags(rt, weak)?;
-    print::word(rt, b"\n")?;
-    Ok(())
 }
 
 fn fill(
@@ -88,7 +49,7 @@ fn fill(
     offsets: &mut [u32],
     labels: &mut [u32],
     weak: &mut [u8],
-) -> Filled {
+) -> Result<usize, FillError> {
     if structs {
         return fill_two(
             row(from_offsets, from_labels, from_weak, 0),
@@ -101,41 +62,42 @@ fn fill(
     slot_rows::fill_columns(from_offsets, from_labels, from_weak, offsets, labels, weak)
 }
 
-fn show<'a>(
+fn show(
     rt: &impl Print,
-    bytes: &'a [u8],
-    halves: &'a [u32],
-    cuts: &'a [usize],
+    bytes: &[u8],
+    halves: &[u32],
+    cuts: &[usize],
     structs: bool,
     offsets: &mut [u32],
     labels: &mut [u32],
     weak: &mut [u8],
 ) -> io::Result<()> {
-    answer(
-        rt,
-        fill(
-            structs,
-            of_u32(halves, cuts, names::SLOT_OFFSETS),
-            of_u32(halves, cuts, names::SLOT_LABELS),
-            of_u8(bytes, cuts, names::SLOT_WEAK),
-            offsets,
-            labels,
-            weak,
-        ),
-    )?;
-    columns(rt, offsets, labels, weak)
+    let filled = fill(
+        structs,
+        of(halves, cuts, names::SLOT_OFFSETS),
+        of(halves, cuts, names::SLOT_LABELS),
+        of(bytes, cuts, names::SLOT_WEAK),
+        offsets,
+        labels,
+        weak,
+    );
+    answer(rt, filled)?;
+    print::column(rt, b"  offsets", offsets)?;
+    print::column(rt, b"  labels", labels)?;
+    print::column(rt, b"  weak", weak)?;
+    Ok(())
 }
 
 // What the columns hold before, nines, is seen behind the rows if it is not cleared.
-pub(crate) fn lend<'a>(
+pub(crate) fn lend(
     rt: &impl Print,
-    bytes: &'a [u8],
-    halves: &'a [u32],
-    words: &'a [u64],
-    cuts: &'a [usize],
+    bytes: &[u8],
+    halves: &[u32],
+    words: &[u64],
+    cuts: &[usize],
     structs: bool,
 ) -> io::Result<()> {
-    let rooms = of_u64(words, cuts, names::ROOMS);
+    let rooms = of(words, cuts, names::ROOMS);
     let offsets_room = room(rooms, 0, ROWS);
     let labels_room = room(rooms, 1, ROWS);
     let weak_room = room(rooms, 2, ROWS);

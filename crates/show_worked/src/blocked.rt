@@ -1,108 +1,79 @@
 // Case (m): a difference of 65,534 is short, and one of 65,535 goes to the long list.
-use crate::refused;
-use case_text::column::{used_u16, used_u32, used_u64};
+use case_text::column::used;
+use case_text::refusal::Refused;
+use rules::{ReadError, Refusal};
 use std::io;
-use store::{CodedOffsets, Offset};
+use store::{CodedOffsets, Offsets, OffsetsError};
 
-fn show_offset(rt: &impl Print, answer: Offset) -> io::Result<()> {
-    print::word(rt, b"    ")?;
+fn show_offset(rt: &impl Print, answer: Result<u64, ReadError>) -> io::Result<()> {
     match answer {
-        Offset::Value(v) => {
-            print::line(rt, b"offset ", v)?;
-        }
-        Offset::Index(i) => refused::tell(rt, refused::INDEX, i)?,
-        Offset::Columns(i) => refused::tell(rt, refused::COLUMNS, i)?,
+        Ok(v) => println!(rt; "    offset {v}"),
+        Err(e) => println!(rt; "    refused: {}", Refused::from(e)),
     }
-    Ok(())
 }
 
 // Every offset read back, and the first place past them.
-fn show_offsets(
-    rt: &impl Print,
-    bases: &[u64],
-    short: &[u16],
-    long_at: &[u32],
-    long_value: &[u64],
-) -> io::Result<()> {
-    let mut i = 0;
-    while i < short.len() {
-        show_offset(rt, store::offset_at(bases, short, long_at, long_value, i))?;
-        i += 1;
+fn show_offsets(rt: &impl Print, offsets: Offsets<'_>) -> io::Result<()> {
+    let end = offsets.short.len();
+    for i in 0..end {
+        show_offset(rt, offsets.at(i))?;
     }
-    show_offset(rt, store::offset_at(bases, short, long_at, long_value, i))
+    show_offset(rt, offsets.at(end))
 }
 
-fn no_code(rt: &impl Print, line: usize, place: usize) -> io::Result<()> {
-    print::word(rt, b"  ")?;
-    refused::tell(rt, line, place)
-}
-
-fn columns(
-    rt: &impl Print,
-    bases: &[u64],
-    short: &[u16],
-    long_at: &[u32],
-    long_value: &[u64],
-) -> io::Result<()> {
-    print::column_u64(rt, b"  bases", bases)?;
-    print::column_u16(rt, b"  short", short)?;
-    print::column_u32(rt, b"  long at", long_at)?;
-    print::column_u64(rt, b"  long value", long_value)?;
+fn columns(rt: &impl Print, offsets: Offsets<'_>) -> io::Result<()> {
+    print::column(rt, b"  bases", offsets.bases)?;
+    print::column(rt, b"  short", offsets.short)?;
+    print::column(rt, b"  long at", offsets.long_at)?;
+    print::column(rt, b"  long value", offsets.long_value)?;
     Ok(())
 }
 
 // The offsets read back from the used parts.
 fn back(
     rt: &impl Print,
-    answer: CodedOffsets,
-    bases: &[u64],
-    short: &[u16],
-    long_at: &[u32],
-    long_value: &[u64],
+    answer: Result<CodedOffsets, OffsetsError>,
+    all: Offsets<'_>,
 ) -> io::Result<()> {
-    match answer {
-        CodedOffsets::Done {
-            bases: b,
-            short: n,
-            long: k,
-        } => show_offsets(
-            rt,
-            used_u64(bases, b),
-            used_u16(short, n),
-            used_u32(long_at, k),
-            used_u64(long_value, k),
-        ),
-        CodedOffsets::Limit => no_code(rt, refused::LIMIT, 0),
-        CodedOffsets::Parts(i) => no_code(rt, refused::PARTS, i),
-        CodedOffsets::Room(k) => no_code(rt, refused::ROOM, k),
-    }
+    let r = match answer {
+        Ok(n) => {
+            let offsets = Offsets {
+                bases: used(all.bases, n.bases),
+                short: used(all.short, n.short),
+                long_at: used(all.long_at, n.long),
+                long_value: used(all.long_value, n.long),
+            };
+            return show_offsets(rt, offsets);
+        }
+        Err(OffsetsError::Limit) => Refusal::Limit,
+        Err(OffsetsError::Parts(position)) => Refusal::Parts {
+            column: 1,
+            position,
+        },
+        Err(OffsetsError::Room(k)) => Refusal::Room(k),
+    };
+    println!(rt; "  refused: {}", Refused(r))
 }
 
-fn left(
-    rt: &impl Print,
-    answer: CodedOffsets,
-    bases: &[u64],
-    short: &[u16],
-    long_at: &[u32],
-    long_value: &[u64],
-) -> io::Result<()> {
-    columns(rt, bases, short, long_at, long_value)?;
-    back(rt, answer, bases, short, long_at, long_value)
-}
-
-// Codes the offsets and reads them back. The columns are lent for good, so that nothing has to be proved of how they come back.
-fn there_and_back<'b>(
+// Codes the offsets and reads them back.
+fn there_and_back(
     rt: &impl Print,
     values: &[u64],
-    bases: &'b mut [u64],
-    short: &'b mut [u16],
-    long_at: &'b mut [u32],
-    long_value: &'b mut [u64],
-) -> io::Result<&'b [u64]> {
-    print::column_u64(rt, b"  offsets", values)?;
+    bases: &mut [u64],
+    short: &mut [u16],
+    long_at: &mut [u32],
+    long_value: &mut [u64],
+) -> io::Result<()> {
+    print::column(rt, b"  offsets", values)?;
     let answer = store::code_offsets(values, bases, short, long_at, long_value);
-    left(rt, answer, bases, short, long_at, long_value)?;
-    Ok(bases)
+    let all = Offsets {
+        bases,
+        short,
+        long_at,
+        long_value,
+    };
+    columns(rt, all)?;
+    back(rt, answer, all)
 }
 
 pub(crate) fn show(rt: &impl Print) -> io::Result<()> {
@@ -110,10 +81,7 @@ pub(crate) fn show(rt: &impl Print) -> io::Result<()> {
     let mut short: [u16; 4] = [9; 4];
     let mut at: [u32; 1] = [9; 1];
     let mut value: [u64; 1] = [9; 1];
-    print::word(
-        rt,
-        b"\n(m) differences 65534 and 65535 from the base of a block\n",
-    )?;
+    println!(rt; "\n(m) differences 65534 and 65535 from the base of a block")?;
     there_and_back(
         rt,
         &[7, 65541, 65542],
@@ -122,10 +90,7 @@ pub(crate) fn show(rt: &impl Print) -> io::Result<()> {
         &mut at,
         &mut value,
     )?;
-    print::word(
-        rt,
-        b"  a value below its base, and one value more than there is room for\n",
-    )?;
+    println!(rt; "  a value below its base, and one value more than there is room for")?;
     there_and_back(rt, &[7, 8, 6], &mut bases, &mut short, &mut at, &mut value)?;
     there_and_back(
         rt,
@@ -134,6 +99,5 @@ pub(crate) fn show(rt: &impl Print) -> io::Result<()> {
         &mut short,
         &mut at,
         &mut value,
-    )?;
-    Ok(())
+    )
 }

@@ -1,19 +1,17 @@
 // Case (h): over base 256 the id 264 is code 2, 4096 is 481, and 9999 is escaped.
-use crate::refused;
-use case_text::column::{used_u32, used_u64};
-use index::{CodedIds, CopiedId};
+use case_text::column::used;
+use case_text::refusal::Refused;
+use index::{CodedIds, IdError, IdsError};
+use rules::Refusal;
 use std::io;
 
-fn show_id(rt: &impl Print, answer: CopiedId) -> io::Result<()> {
-    print::word(rt, b"    ")?;
-    match answer {
-        CopiedId::Id(id) => {
-            print::line(rt, b"id ", id)?;
-        }
-        CopiedId::Index(i) => refused::tell(rt, refused::INDEX, i)?,
-        CopiedId::Copied(i) => refused::tell(rt, refused::COPIED, i)?,
-    }
-    Ok(())
+fn show_id(rt: &impl Print, answer: Result<u64, IdError>) -> io::Result<()> {
+    let r = match answer {
+        Ok(id) => return println!(rt; "    id {id}"),
+        Err(IdError::Index(i)) => Refusal::Index(i),
+        Err(IdError::Copied(i)) => Refusal::Copied(i),
+    };
+    println!(rt; "    refused: {}", Refused(r))
 }
 
 // Every id read back, and the first place past them.
@@ -23,55 +21,45 @@ fn show_ids(
     escape_places: &[u64],
     escape_ids: &[u64],
 ) -> io::Result<()> {
-    let mut i = 0;
-    while i < codes.len() {
+    for i in 0..codes.len() {
         show_id(rt, index::id_at(codes, escape_places, escape_ids, 256, i))?;
-        i += 1;
     }
-    show_id(rt, index::id_at(codes, escape_places, escape_ids, 256, i))
-}
-
-fn no_room(rt: &impl Print, k: usize) -> io::Result<()> {
-    print::word(rt, b"  ")?;
-    refused::tell(rt, refused::ROOM, k)
+    let end = codes.len();
+    show_id(rt, index::id_at(codes, escape_places, escape_ids, 256, end))
 }
 
 // What is left in the columns, and the ids read back from the used parts.
 fn left(
     rt: &impl Print,
-    answer: CodedIds,
+    answer: Result<CodedIds, IdsError>,
     codes: &[u32],
     escape_places: &[u64],
     escape_ids: &[u64],
 ) -> io::Result<()> {
-    print::column_u32(rt, b"  codes", codes)?;
-    print::column_u64(rt, b"  escape places", escape_places)?;
-    print::column_u64(rt, b"  escape ids", escape_ids)?;
+    print::column(rt, b"  codes", codes)?;
+    print::column(rt, b"  escape places", escape_places)?;
+    print::column(rt, b"  escape ids", escape_ids)?;
     match answer {
-        CodedIds::Done {
-            codes: n,
-            escapes: k,
-        } => show_ids(
+        Ok(n) => show_ids(
             rt,
-            used_u32(codes, n),
-            used_u64(escape_places, k),
-            used_u64(escape_ids, k),
+            used(codes, n.codes),
+            used(escape_places, n.escapes),
+            used(escape_ids, n.escapes),
         ),
-        CodedIds::Room(k) => no_room(rt, k),
+        Err(IdsError::Room(k)) => println!(rt; "  refused: {}", Refused(Refusal::Room(k))),
     }
 }
 
-// Codes the ids and reads them back. The columns are lent for good, so that nothing has to be proved of how they come back.
-fn there_and_back<'b>(
+// Codes the ids and reads them back.
+fn there_and_back(
     rt: &impl Print,
     ids: &[u64],
-    codes: &'b mut [u32],
-    escape_places: &'b mut [u64],
-    escape_ids: &'b mut [u64],
-) -> io::Result<&'b [u32]> {
+    codes: &mut [u32],
+    escape_places: &mut [u64],
+    escape_ids: &mut [u64],
+) -> io::Result<()> {
     let answer = index::code_ids(ids, 256, codes, escape_places, escape_ids);
-    left(rt, answer, codes, escape_places, escape_ids)?;
-    Ok(codes)
+    left(rt, answer, codes, escape_places, escape_ids)
 }
 
 pub(crate) fn show(rt: &impl Print) -> io::Result<()> {
@@ -79,12 +67,8 @@ pub(crate) fn show(rt: &impl Print) -> io::Result<()> {
     let mut codes: [u32; 5] = [9; 5];
     let mut escape_places: [u64; 1] = [9; 1];
     let mut escape_ids: [u64; 1] = [9; 1];
-    print::word(
-        rt,
-        b"\n(h) copied ids over base 256, read back from their codes\n",
-    )?;
+    println!(rt; "\n(h) copied ids over base 256, read back from their codes")?;
     there_and_back(rt, &ids, &mut codes, &mut escape_places, &mut escape_ids)?;
-    print::word(rt, b"  the same without room for the escape\n")?;
-    there_and_back(rt, &ids, &mut codes, &mut [], &mut escape_ids)?;
-    Ok(())
+    println!(rt; "  the same without room for the escape")?;
+    there_and_back(rt, &ids, &mut codes, &mut [], &mut escape_ids)
 }

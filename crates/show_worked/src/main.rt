@@ -4,12 +4,11 @@
 mod blocked;
 mod copied;
 mod questions;
-mod refused;
 
 use std::io;
 
 fn main(rt: HostRuntime) -> io::Result<()> {
-    print::word(&rt, b"The worked dump of document 01\n")?;
+    println!(rt; "The worked dump of document 01")?;
     copied::show(&rt)?;
     blocked::show(&rt)?;
     questions::show(&rt)

@@ -1,16 +1,16 @@
 -- Slot rows, and what filling the three slot columns from them answers and leaves. Assumes nothing.
-use Rattle.std.specs.Prelude.{ℕ, min, ◌≡◌, cond, List, [], ◌∷◌, map, ltb, length, get_or}
+use Rattle.std.specs.Prelude.{ℕ, Result, Ok, Err, min, ◌≡◌, cond, List, [], ◌∷◌, ltb, length}
 use Rattle.columns.specs.Lists.{◌!◌, any_of, tab}
 use Rattle.columns.specs.Columns.{cleared}
 use Rattle.rules.specs.Built.{SlotsLeft, slots_left}
 use Rattle.slot_rows.specs.declared.SlotRow.{SlotRow}
-use Rattle.slot_rows.specs.declared.Filled.{Filled}
-use Rattle.slot_rows.specs.declared.Filled.TheVariants as Filled
+use Rattle.slot_rows.specs.declared.FillError.{FillError}
+use Rattle.slot_rows.specs.declared.FillError.TheVariants.{Room}
 
 -- "Filling from slot rows only with ROOM 17."
-abbrev pub filled_says : Filled → List ℕ
-filled_says (Filled.Done n) = 0 ∷ n ∷ []
-filled_says (Filled.Room b) = 9 ∷ b ∷ []
+abbrev pub filled_says : Result ℕ FillError → List ℕ
+filled_says (Ok n) = 0 ∷ n ∷ []
+filled_says (Err (Room b)) = 9 ∷ b ∷ []
 
 abbrev pub row_offset : SlotRow → ℕ
 row_offset r = r.offset
@@ -25,7 +25,7 @@ row_weak r = r.weak
 abbrev pub left : List SlotRow → ℕ → ℕ → ℕ → SlotsLeft
 left rows a b c = slots_left row_offset row_label row_weak rows a b c
 
-pub record Filling (rows : List SlotRow) (a b c : ℕ) (r : Filled) (o l w : List ℕ) : Type 0 where
+pub record Filling (rows : List SlotRow) (a b c : ℕ) (r : Result ℕ FillError) (o l w : List ℕ) : Type 0 where
   pub answer : filled_says r ≡ (left rows a b c).says
   pub offsets : o ≡ (left rows a b c).offsets
   pub labels : l ≡ (left rows a b c).labels
@@ -46,7 +46,7 @@ unfoldable pub room_for : ℕ → ℕ → ℕ → ℕ → ℕ
 room_for n a b c = cond (any_of (ltb a n ∷ ltb b n ∷ ltb c n ∷ [])) 0 n
 
 -- The last step: the ends behind what was written are cleared, and the answer says whether that is all.
-pub record RowsSettled (n room : ℕ) (r : Filled) (o l w o' l' w' : List ℕ) : Type 0 where
+pub record RowsSettled (n room : ℕ) (r : Result ℕ FillError) (o l w o' l' w' : List ℕ) : Type 0 where
   pub answer : filled_says r ≡ cond (ltb room n) (9 ∷ 17 ∷ []) (0 ∷ n ∷ [])
   pub offsets : o' ≡ cleared room o
   pub labels : l' ≡ cleared room l

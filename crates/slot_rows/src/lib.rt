@@ -15,10 +15,9 @@ pub struct SlotRow {
     pub weak: u8,
 }
 
-// What filling answers: the rows written, or the buffer that is too small.
+// Why no rows were written: the buffer that is too small.
 #[derive(Clone, Copy)]
-pub enum Filled {
-    Done(usize),
+pub enum FillError {
     Room(usize),
 }
 
@@ -30,15 +29,18 @@ pub fn fill_columns(
     offsets: &mut [u32],
     labels: &mut [u32],
     weak: &mut [u8],
-) -> Filled
+) -> Result<usize, FillError>
     ensures { Filling (rows_of from_offsets.now from_labels.now from_weak.now) (length offsets.old)
         (length labels.old) (length weak.old) result offsets.new labels.new weak.new }
 {
-    let n = step::row_count(from_offsets.len(), from_labels.len(), from_weak.len());
+    let n = from_offsets
+        .len()
+        .min(from_labels.len())
+        .min(from_weak.len());
     let room = step::room_for(n, offsets.len(), labels.len(), weak.len());
-    step::copy_u32(from_offsets, room, offsets);
-    step::copy_u32(from_labels, room, labels);
-    step::copy_u8(from_weak, room, weak);
+    step::copy(from_offsets, room, offsets);
+    step::copy(from_labels, room, labels);
+    step::copy(from_weak, room, weak);
     step::settle(n, room, offsets, labels, weak)
 }
 
@@ -48,18 +50,15 @@ pub fn fill_rows(
     offsets: &mut [u32],
     labels: &mut [u32],
     weak: &mut [u8],
-) -> Filled
+) -> Result<usize, FillError>
     ensures { Filling rows.now (length offsets.old) (length labels.old) (length weak.old) result offsets.new labels.new weak.new }
 {
     let n = rows.len();
     let room = step::room_for(n, offsets.len(), labels.len(), weak.len());
-    let mut i = 0;
-    while i < room {
-        let r = rows[i];
+    for (i, r) in rows[..room].iter().enumerate() {
         offsets[i] = r.offset;
         labels[i] = r.label;
         weak[i] = r.weak;
-        i += 1;
     }
     step::settle(n, room, offsets, labels, weak)
 }

@@ -1,9 +1,6 @@
 pub mod Basics
 pub mod Sorted
 pub mod Repeats
-pub mod Swap
-pub mod Puts
-pub mod Heaps
-pub mod Splits
+pub mod Unstable
 pub mod Thinning
 pub mod Run

@@ -1,6 +1,6 @@
 -- An answer that accepts says that nothing is refused; and from what coding leaves to its contract. Assumes nothing.
 use mathlib.Core.Path.{◌≡◌, refl, sym, ap, ◌∙◌}
-use mathlib.Core.Bool.{Bool, true, false, cond, true≢false}
+use mathlib.Core.Bool.{true, false}
 use mathlib.Core.List.{List, [], ◌∷◌}
 use Prim.Native.Nat.{ℕ, ◌*◌, ◌/◌, ◌≤◌, ◌<◌}
 use native.Mathlib.Omega.{arith}
@@ -14,8 +14,11 @@ use Rattle.columns.proofs.Parts.{never-falls}
 use Rattle.columns.proofs.Tests.{no_places}
 use Rattle.columns.proofs.Written.{leaves-zeros, leaves-padded}
 use Rattle.columns.proofs.Answers.{past}
+use Rattle.std.specs.Prelude.{Result, Err}
 use Rattle.store.specs.declared.CodedOffsets.{CodedOffsets}
-use Rattle.store.specs.Blocked.{coding_says, Accepted, Filled, Emptied, Coding, coded_says, base_at, is_low, first_low, blocks_of, long_rows, blocked}
+use Rattle.store.specs.declared.OffsetsError.{OffsetsError}
+use Rattle.store.specs.declared.OffsetsError.TheVariants.{Limit, Parts, Room}
+use Rattle.store.specs.Blocked.{coding_says, Accepted, Filled, Emptied, Coding, coded_says, base_at, is_low, first_low, blocks_of, long_rows}
 
 -- No number of a list that climbs is below its block's base.
 pub climbs_high : (vs : List ℕ) → Climbs vs → first_low vs ≡ length vs
@@ -23,6 +26,12 @@ climbs_high vs climbs = ap (λ (ps : List ℕ). get_or ps 0 (length vs)) (no_pla
   where
     high : (i : ℕ) → i < length vs → base_at vs i ≤ vs ! i
     high i l = never-falls vs i (λ k m. climbs k (omega arith)) (i / 256 * 256) (omega arith)
+
+pub refuses : (e : OffsetsError) → accepts (coded_says (Err e)) ≡ false
+unfolding accepts
+refuses Limit = refl
+refuses (Parts i) = refl
+refuses (Room k) = refl
 
 pub accepted : (vs : List ℕ) (nb ns na nv : ℕ) → accepts (coding_says vs nb ns na nv) ≡ true → Accepted vs nb ns na nv
 unfolding coding_says
@@ -46,7 +55,7 @@ pub accepted_says : {vs : List ℕ} {nb ns na nv : ℕ} → Accepted vs nb ns na
 unfolding coding_says
 accepted_says a = simp (le-ltb _ _ a.few, le-ltb _ _ a.risen, le-ltb _ _ a.room_bases, le-ltb _ _ a.room_short, le-ltb _ _ a.room_at, le-ltb _ _ a.room_value)
 
-module _ (vs : List ℕ) (nb ns na nv : ℕ) (r : CodedOffsets) (e : coded_says r ≡ coding_says vs nb ns na nv) where
+module _ (vs : List ℕ) (nb ns na nv : ℕ) (r : Result CodedOffsets OffsetsError) (e : coded_says r ≡ coding_says vs nb ns na nv) where
   -- an answer that accepts: its facts, and the long rows that it gives
   pub coding_accepted : accepts (coded_says r) ≡ true → Accepted vs nb ns na nv
   coding_accepted y = accepted vs nb ns na nv (ap accepts (sym e) ∙ y)

@@ -1,19 +1,20 @@
 -- Blocked offsets (document 01, "Blocks and labels"): what the coded columns are, and what coding answers. Assumes nothing.
-use Rattle.std.specs.Prelude.{ℕ, ◌+◌, ◌-◌, ◌*◌, ◌/◌, ◌≤◌, min, ◌≡◌, Bool, cond, List, [], ◌∷◌, map, ltb, leb, length}
+use Rattle.std.specs.Prelude.{ℕ, ◌+◌, ◌-◌, ◌*◌, ◌/◌, ◌≤◌, min, ◌≡◌, Bool, cond, List, [], ◌∷◌, map, ltb, leb, length, Result, Ok, Err}
 use Rattle.columns.specs.Lists.{◌!◌, tab, places, first_place}
 use Rattle.columns.specs.Columns.{zeros, over, padded, leaves}
 use Rattle.store.specs.declared.CodedOffsets.{CodedOffsets}
-use Rattle.store.specs.declared.CodedOffsets.TheVariants.{Done, Limit, Parts, Room}
+use Rattle.store.specs.declared.OffsetsError.{OffsetsError}
+use Rattle.store.specs.declared.OffsetsError.TheVariants.{Limit, Parts, Room}
 -- the four columns, and what reading one offset back answers
-pub use Rattle.store_read.specs.Back.{Blocked, blocked_of, offset_says}
+pub use Rattle.store_read.specs.Back.{Blocked, blocked_of, read_error_says, offset_says}
 unfoldable pub use Rattle.store_read.specs.Back.{long_back, short_back, read_back}
 
 -- Document 01's number and values for each answer; 0 is acceptance, and then the lengths used follow.
-abbrev pub coded_says : CodedOffsets → List ℕ
-coded_says (Done b s l) = 0 ∷ b ∷ s ∷ l ∷ []
-coded_says Limit = 2 ∷ 0 ∷ []
-coded_says (Parts i) = 10 ∷ 1 ∷ i ∷ []
-coded_says (Room k) = 9 ∷ k ∷ []
+abbrev pub coded_says : Result CodedOffsets OffsetsError → List ℕ
+coded_says (Ok coded) = 0 ∷ coded.bases ∷ coded.short ∷ coded.long ∷ []
+coded_says (Err Limit) = 2 ∷ 0 ∷ []
+coded_says (Err (Parts i)) = 10 ∷ 1 ∷ i ∷ []
+coded_says (Err (Room k)) = 9 ∷ k ∷ []
 
 -- "Offset i is its block's base (offset at 256 × (i / 256)) plus a short number."
 abbrev pub base_at : List ℕ → ℕ → ℕ
@@ -99,7 +100,7 @@ pub record LongWritten (vs a₀ v₀ a v : List ℕ) : Type 0 where
   pub long_value : v ≡ over (long_value_to vs (length vs)) v₀
 
 -- What `code_offsets` answers, r, and leaves in the four columns that it is lent: all zero after a refusal.
-pub record Coding (vs : List ℕ) (nb ns na nv : ℕ) (r : CodedOffsets) (b s a v : List ℕ) : Type 0 where
+pub record Coding (vs : List ℕ) (nb ns na nv : ℕ) (r : Result CodedOffsets OffsetsError) (b s a v : List ℕ) : Type 0 where
   pub answer : coded_says r ≡ coding_says vs nb ns na nv
   pub bases : b ≡ leaves (coded_says r) (blocked vs).bases nb
   pub short : s ≡ leaves (coded_says r) (blocked vs).short ns

@@ -1,36 +1,28 @@
 // The steps of coding offsets.
 ghost use Rattle.std.specs.Prelude.{◌≡◌, ◌≤◌, ◌<◌, ◌*◌, ◌+◌, min, length};
-ghost use Rattle.columns.specs.Lists.{◌!◌};
-ghost use Rattle.columns.specs.Columns.{accepts, over, zeros};
+ghost use Rattle.columns.specs.Columns.{over};
 ghost use Rattle.store.specs.Blocked.{above_at, first_low, coding_says, coded_says, long_rows, Accepted, Filled, bases_to, short_to, LongWritten, Emptied};
 
-use super::CodedOffsets;
+use super::{CodedOffsets, OffsetsError};
 
 // How far the number at i is above its block's base.
 fn above(values: &[u64], i: usize) -> u64
     requires { i < length values.now }
     ensures { result ≡ above_at values.now i }
 {
-    let base = values[i / 256 * 256];
-    let v = values[i];
-    if v < base {
-        return 0;
-    }
-    v - base
+    values[i].saturating_sub(values[i / 256 * 256])
 }
 
 // The first place whose number is below its block's base, or the length.
 fn first_low(values: &[u64]) -> usize
     ensures { result ≡ first_low values.now }
 {
-    let mut i = 0;
-    while i < values.len() {
-        if values[i] < values[i / 256 * 256] {
+    for (i, v) in values.iter().enumerate() {
+        if *v < values[i / 256 * 256] {
             return i;
         }
-        i += 1;
     }
-    i
+    values.len()
 }
 
 // How many rows the long list needs.
@@ -38,90 +30,59 @@ pub fn count_long(values: &[u64]) -> usize
     ensures { result ≡ long_rows values.now }
 {
     let mut rows = 0;
-    let mut i = 0;
-    while i < values.len() {
+    for i in 0..values.len() {
         if 65535 <= above(values, i) {
             rows += 1;
-            i += 1;
-        } else {
-            i += 1;
         }
     }
     rows
 }
 
 // The answer, from the numbers and the lengths lent for the four columns.
-pub(crate) fn judge(values: &[u64], nb: usize, ns: usize, na: usize, nv: usize) -> CodedOffsets
+pub(crate) fn judge(
+    values: &[u64],
+    nb: usize,
+    ns: usize,
+    na: usize,
+    nv: usize,
+) -> Result<CodedOffsets, OffsetsError>
     ensures { coded_says result ≡ coding_says values.now nb ns na nv }
 {
     let n = values.len();
     if 67108865 < n {
-        return CodedOffsets::Limit;
+        return Err(OffsetsError::Limit);
     }
     let low = first_low(values);
     if low < n {
-        return CodedOffsets::Parts(low);
+        return Err(OffsetsError::Parts(low));
     }
     let blocks = (n + 255) / 256;
     if nb < blocks {
-        return CodedOffsets::Room(4);
+        return Err(OffsetsError::Room(4));
     }
     if ns < n {
-        return CodedOffsets::Room(4);
+        return Err(OffsetsError::Room(4));
     }
     let rows = count_long(values);
     if na < rows {
-        return CodedOffsets::Room(5);
+        return Err(OffsetsError::Room(5));
     }
     if nv < rows {
-        return CodedOffsets::Room(5);
+        return Err(OffsetsError::Room(5));
     }
-    CodedOffsets::Done {
+    Ok(CodedOffsets {
         bases: blocks,
         short: n,
         long: rows,
-    }
-}
-
-pub(crate) fn is_done(r: CodedOffsets) -> bool
-    ensures { result ≡ accepts (coded_says r) }
-{
-    match r {
-        CodedOffsets::Done {
-            bases: _,
-            short: _,
-            long: _,
-        } => true,
-        CodedOffsets::Limit => false,
-        CodedOffsets::Parts(_) => false,
-        CodedOffsets::Room(_) => false,
-    }
-}
-
-// The long rows of an acceptance.
-pub(crate) fn rows_of(r: CodedOffsets) -> usize
-    ensures { result ≡ coded_says r ! 3 }
-{
-    match r {
-        CodedOffsets::Done {
-            bases: _,
-            short: _,
-            long,
-        } => long,
-        CodedOffsets::Limit => 0,
-        CodedOffsets::Parts(_) => 0,
-        CodedOffsets::Room(_) => 0,
-    }
+    })
 }
 
 fn write_bases(values: &[u64], bases: &mut [u64], blocks: usize)
     requires { (blocks ≤ length bases.old) × (blocks * 256 ≤ length values.now + 255) }
     ensures { bases.new ≡ over (bases_to values.now blocks) bases.old }
 {
-    let mut b = 0;
-    while b < blocks {
+    for b in 0..blocks {
         bases[b] = values[b * 256];
-        b += 1;
     }
 }
 
@@ -136,10 +97,8 @@ fn write_short(values: &[u64], short: &mut [u16])
     requires { length values.now ≤ length short.old }
     ensures { short.new ≡ over (short_to values.now (length values.now)) short.old }
 {
-    let mut i = 0;
-    while i < values.len() {
+    for i in 0..values.len() {
         short[i] = short_of(above(values, i));
-        i += 1;
     }
 }
 
@@ -149,15 +108,14 @@ fn write_long(values: &[u64], rows: usize, long_at: &mut [u32], long_value: &mut
     ensures { LongWritten values.now long_at.old long_value.old long_at.new long_value.new }
 {
     let mut k = 0;
-    let mut i = 0;
-    while k < rows {
+    for (i, v) in values.iter().enumerate() {
+        if rows <= k {
+            return;
+        }
         if 65535 <= above(values, i) {
             long_at[k] = i as u32;
-            long_value[k] = values[i];
+            long_value[k] = *v;
             k += 1;
-            i += 1;
-        } else {
-            i += 1;
         }
     }
 }
@@ -179,12 +137,12 @@ pub fn write_all(
     let n = values.len();
     let blocks = (n + 255) / 256;
     write_bases(values, bases, blocks);
-    columns::zero_u64(bases, blocks);
+    columns::zero(bases, blocks);
     write_short(values, short);
-    columns::zero_u16(short, n);
+    columns::zero(short, n);
     write_long(values, rows, long_at, long_value);
-    columns::zero_u32(long_at, rows);
-    columns::zero_u64(long_value, rows);
+    columns::zero(long_at, rows);
+    columns::zero(long_value, rows);
 }
 
 // All four columns zero, as after a refusal.
@@ -192,8 +150,8 @@ pub fn zero_all(bases: &mut [u64], short: &mut [u16], long_at: &mut [u32], long_
     ensures { Emptied (length bases.old) (length short.old) (length long_at.old) (length long_value.old)
         bases.new short.new long_at.new long_value.new }
 {
-    columns::zero_u64(bases, 0);
-    columns::zero_u16(short, 0);
-    columns::zero_u32(long_at, 0);
-    columns::zero_u64(long_value, 0);
+    columns::zero(bases, 0);
+    columns::zero(short, 0);
+    columns::zero(long_at, 0);
+    columns::zero(long_value, 0);
 }

@@ -6,16 +6,19 @@ pub mod code;
 ghost use Rattle.std.specs.Prelude.{length};
 ghost use Rattle.store.specs.Blocked.{Coding};
 
-pub use store_read::{Offset, offset_at, short_at};
+pub use store_read::{Offsets, ReadError, short_at};
 
-// What coding answers: the lengths used of bases, of short numbers and of long rows; or the refusal.
+// The lengths used of bases, of short numbers and of long rows.
 #[derive(Clone, Copy)]
-pub enum CodedOffsets {
-    Done {
-        bases: usize,
-        short: usize,
-        long: usize,
-    },
+pub struct CodedOffsets {
+    pub bases: usize,
+    pub short: usize,
+    pub long: usize,
+}
+
+// Why offsets are not coded: they are too many; the one at a place is below its block's base; or a buffer, by its number, has too little room.
+#[derive(Clone, Copy)]
+pub enum OffsetsError {
     Limit,
     Parts(usize),
     Room(usize),
@@ -28,21 +31,24 @@ pub fn code_offsets(
     short: &mut [u16],
     long_at: &mut [u32],
     long_value: &mut [u64],
-) -> CodedOffsets
+) -> Result<CodedOffsets, OffsetsError>
     ensures { Coding values.now (length bases.old) (length short.old) (length long_at.old) (length long_value.old) result bases.new
         short.new long_at.new long_value.new }
 {
-    let r = code::judge(
+    match code::judge(
         values,
         bases.len(),
         short.len(),
         long_at.len(),
         long_value.len(),
-    );
-    if code::is_done(r) {
-        code::write_all(values, code::rows_of(r), bases, short, long_at, long_value);
-        return r;
+    ) {
+        Ok(coded) => {
+            code::write_all(values, coded.long, bases, short, long_at, long_value);
+            Ok(coded)
+        }
+        Err(e) => {
+            code::zero_all(bases, short, long_at, long_value);
+            Err(e)
+        }
     }
-    code::zero_all(bases, short, long_at, long_value);
-    r
 }

@@ -1,9 +1,10 @@
 -- Blocked offsets (document 01, "Blocks and labels"): the four columns, and what reading one offset back answers. Assumes nothing.
-use Rattle.std.specs.Prelude.{ℕ, ◌+◌, ◌/◌, ◌^◌, cond, List, [], ◌∷◌, ltb, eqb, length}
+use Rattle.std.specs.Prelude.{Result, Ok, Err, ℕ, ◌+◌, ◌/◌, ◌^◌, cond, List, [], ◌∷◌, ltb, eqb, length}
 use Rattle.columns.specs.Lists.{◌!◌}
 use Rattle.columns.specs.Ranks.{bisect}
-use Rattle.store_read.specs.declared.Offset.{Offset}
-use Rattle.store_read.specs.declared.Offset.TheVariants.{Value, Index, Columns}
+use Rattle.store_read.specs.declared.Offsets.{Offsets}
+use Rattle.store_read.specs.declared.ReadError.{ReadError}
+use Rattle.store_read.specs.declared.ReadError.TheVariants.{Index, Columns}
 
 -- The four columns.
 pub record Blocked : Type 0 where
@@ -15,11 +16,17 @@ pub record Blocked : Type 0 where
 abbrev pub blocked_of : List ℕ → List ℕ → List ℕ → List ℕ → Blocked
 blocked_of b s a v = record { bases = b; short = s; long_at = a; long_value = v }
 
--- Document 01's number and values for each answer; 0 is acceptance, and then the value follows.
-abbrev pub offset_says : Offset → List ℕ
-offset_says (Value v) = 0 ∷ v ∷ []
-offset_says (Index i) = 11 ∷ i ∷ []
-offset_says (Columns i) = 12 ∷ i ∷ []
+abbrev pub blocked_in : Offsets → Blocked
+blocked_in o = record { bases = o.bases.now; short = o.short.now; long_at = o.long_at.now; long_value = o.long_value.now }
+
+-- Document 01's number and values: of what is refused, and of each answer; 0 is acceptance, and then the value follows.
+abbrev pub read_error_says : ReadError → List ℕ
+read_error_says (Index i) = 11 ∷ i ∷ []
+read_error_says (Columns i) = 12 ∷ i ∷ []
+
+abbrev pub offset_says : Result ℕ ReadError → List ℕ
+offset_says (Ok v) = 0 ∷ v ∷ []
+offset_says (Err e) = read_error_says e
 
 -- Reading. The long row of i is the one where bisection ends, if its place is i; else the entry cannot be read back.
 unfoldable pub long_back : List ℕ → List ℕ → ℕ → ℕ → List ℕ

@@ -6,16 +6,9 @@ use Rattle.rules.specs.Built.{CodedLeft, BuildLeft, PartsLeft}
 use Rattle.build_rooms.specs.Stages.{left_of}
 use Rattle.from_parts.specs.Parts.{left_as}
 use Rattle.answer_numbers.specs.Told.{told}
-use Rattle.slot_rows.specs.declared.SlotRow.{SlotRow}
-use Rattle.slot_rows.specs.declared.Filled.{Filled}
-use Rattle.slot_rows.specs.Rows.{filled_says, left, Filling}
-use Rattle.rules.specs.Questions.{EdgesLeft}
 use Rattle.rules.specs.Incoming.{InLeft}
-use Rattle.rules.specs.Each.{EachLeft}
 use Rattle.incoming.specs.Laying.{left_inverted}
-use Rattle.ask_edges.specs.Object.{left_edges}
-use Rattle.ask_each.specs.Listed.{left_each}
-use Rattle.yokefathom.specs.Calls.{BuildTold, PartsTold, SlotsTold, EdgesTold, EachTold, InvertTold}
+use Rattle.yokefathom.specs.Calls.{BuildTold, PartsTold, InvertTold}
 
 pub build_told : {left : BuildLeft} {says answer ts ls fs ws rs wk : List ℕ} {coded : CodedLeft} {a : List (List ℕ)} → answer ≡ told 9 says → left_of says ts ls fs ws rs wk coded a ≡ left → BuildTold left answer ts ls fs ws rs wk coded a
 build_told {left} {says} {answer} {ts} {ls} {fs} {ws} {rs} {wk} {coded} {a} e l =
@@ -26,23 +19,6 @@ pub parts-told : {left : PartsLeft} {says answer : List ℕ} {coded : CodedLeft}
 parts-told {left} {says} {answer} {coded} e l =
     let said : says ≡ left.says = ap (λ (b : PartsLeft). b.says) l in
     record { told_as = e ∙ ap (told 9) said; columns = ap (λ (s : List ℕ). left_as s coded) (sym said) ∙ l }
-
-pub slots-told : {rows : List SlotRow} {a b c : ℕ} {r : Filled} {answer o l w : List ℕ} → answer ≡ told 4 (filled_says r) → Filling rows a b c r o l w → SlotsTold (left rows a b c) answer o l w
-slots-told e f = record { told_as = e ∙ ap (told 4) f.answer; offsets = f.offsets; labels = f.labels; weak = f.weak }
-
-pub edges-told : {left : EdgesLeft} {says answer t l : List ℕ} → answer ≡ told 4 says → left_edges says t l ≡ left → EdgesTold left answer t l
-edges-told e f = record {
-  told_as = e ∙ ap (λ (x : EdgesLeft). told 4 x.says) f;
-  targets = ap (λ (x : EdgesLeft). x.targets) f;
-  labels = ap (λ (x : EdgesLeft). x.labels) f;
-}
-
-pub each-told : {left : EachLeft} {says answer t m : List ℕ} → answer ≡ told 4 says → left_each says t m ≡ left → EachTold left answer t m
-each-told e f = record {
-  told_as = e ∙ ap (λ (x : EachLeft). told 4 x.says) f;
-  targets = ap (λ (x : EachLeft). x.targets) f;
-  found = ap (λ (x : EachLeft). x.found) f;
-}
 
 pub invert_told : {left : InLeft} {says answer s p b h a v w : List ℕ} → answer ≡ told 4 says → left_inverted says s p b h a v w ≡ left
     → InvertTold left answer (left_inverted left.says s p b h a v w)

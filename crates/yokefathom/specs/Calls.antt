@@ -1,8 +1,8 @@
 -- What an exported call leaves: what the call that it is named after leaves, with the answer as numbers. Assumes nothing.
-use Rattle.std.specs.Prelude.{ℕ, ◌≡◌, Bool, List}
+use Rattle.std.specs.Prelude.{ℕ, ◌≡◌, Bool, List, Option, Result}
 use Rattle.rules.specs.declared.ReferencePolicy.{ReferencePolicy}
-use Rattle.rules.specs.declared.ExactLabel.{ExactLabel}
-use Rattle.rules.specs.declared.LabelOf.{LabelOf}
+use Rattle.rules.specs.declared.Label.{Label}
+use Rattle.store_read.specs.declared.ReadError.{ReadError}
 use Rattle.rules.specs.Types.{exact_says, label_of_says}
 use Rattle.rules.specs.Built.{CodedLeft, BuildLeft, PartsLeft, SlotsLeft}
 use Rattle.rules.specs.Questions.{Columns, EdgesLeft}
@@ -53,11 +53,11 @@ pub record InvertTold (left : InLeft) (answer : List ℕ) (found : InLeft) : Typ
 
 -- An exact label, told: an answer that meets the contract of `exact_label`, as numbers; and likewise one of `label_of`.
 pub record ExactTold (c : Columns) (o k : ℕ) (answer : List ℕ) : Type 0 where
-  pub given : ExactLabel
+  pub given : Result Label ReadError
   pub told_as : answer ≡ told 4 (exact_says given)
   pub meets : ExactAt c o k (exact_says given)
 
 pub record LabelTold (c : Columns) (o t : ℕ) (answer : List ℕ) : Type 0 where
-  pub given : LabelOf
+  pub given : Result (Option Label) ReadError
   pub told_as : answer ≡ told 4 (label_of_says given)
   pub meets : LabelTo c o t (label_of_says given)

@@ -1,4 +1,4 @@
-// The two builds.
+// The two builds. They stay two calls: each route is lent columns of its own, and C knows no call that takes the one or the other.
 ghost use Rattle.columns.specs.Loans.{now_of, old_of, new_of};
 ghost use Rattle.rules.specs.Built.{build_left};
 ghost use Rattle.rules.specs.Tables.{object_table, class_table, slot_table, static_table, schema_of, copied_route, raw_route, input_of, room_of, coding_room, coding_left};
@@ -115,8 +115,7 @@ pub extern "C" fn yokefathom_build_copied(
         counting,
         ranking,
     );
-    let says = answer_builds::built(built);
-    *answer = says;
+    *answer = answer_builds::built(built);
 }
 
 // The graph of an input by the raw route, in the columns lent, with its account; or a refusal, and all of them zero.
@@ -226,6 +225,5 @@ pub extern "C" fn yokefathom_build_raw(
         counting,
         ranking,
     );
-    let says = answer_builds::built(built);
-    *answer = says;
+    *answer = answer_builds::built(built);
 }

@@ -8,6 +8,8 @@ ghost use Rattle.incoming_ask.specs.Entries.{in_span, entry_of};
 ghost use Rattle.answer_numbers.specs.Told.{told};
 ghost use Rattle.yokefathom.specs.Calls.{InvertTold};
 
+use super::lent;
+
 // For each object the objects that refer to it and the places of their edges, rising. Zeros behind them; or a refusal, and all columns lent are zero.
 #[unsafe(no_mangle)]
 pub extern "C" fn yokefathom_invert(
@@ -33,7 +35,7 @@ pub extern "C" fn yokefathom_invert(
         let left = invert_left graph (in_room old_of sources places in_bases in_short in_long_at in_long_value working) in
         InvertTold left answer.new (in_left new_of left.says sources places in_bases in_short in_long_at in_long_value working) }
 {
-    let found = incoming::invert(
+    let graph = lent::strong(
         bases,
         short,
         long_at,
@@ -43,6 +45,9 @@ pub extern "C" fn yokefathom_invert(
         fields,
         escape_at,
         escape_label,
+    );
+    let found = incoming::invert(
+        graph,
         sources,
         places,
         in_bases,
@@ -51,8 +56,7 @@ pub extern "C" fn yokefathom_invert(
         in_long_value,
         working,
     );
-    let says = answer_numbers::inverted(found);
-    *answer = says;
+    *answer = answer_numbers::numbers(found);
 }
 
 // Where the entries of an object stand among the sources and the places.
@@ -69,17 +73,16 @@ pub extern "C" fn yokefathom_in_span(
 )
     ensures { answer.new ≡ told 4 (in_span (in_columns now_of sources places in_bases in_short in_long_at in_long_value) object) }
 {
-    let found = incoming::span(
+    let side = lent::incoming(
         sources,
         places,
         in_bases,
         in_short,
         in_long_at,
         in_long_value,
-        object,
     );
-    let says = answer_numbers::span(found);
-    *answer = says;
+    let found = side.span(object);
+    *answer = answer_numbers::numbers(found);
 }
 
 // How many edges go to an object: 0 says that nobody holds it.
@@ -96,17 +99,16 @@ pub extern "C" fn yokefathom_in_degree(
 )
     ensures { answer.new ≡ told 4 (count_of (in_span (in_columns now_of sources places in_bases in_short in_long_at in_long_value) object)) }
 {
-    let found = incoming::in_degree(
+    let side = lent::incoming(
         sources,
         places,
         in_bases,
         in_short,
         in_long_at,
         in_long_value,
-        object,
     );
-    let says = answer_numbers::edge_count(found);
-    *answer = says;
+    let found = side.in_degree(object);
+    *answer = answer_numbers::numbers(found);
 }
 
 // Entry k of an object: who refers to it, and the place of that edge in the target column.
@@ -124,16 +126,14 @@ pub extern "C" fn yokefathom_entry_at(
 )
     ensures { answer.new ≡ told 4 (entry_of (in_columns now_of sources places in_bases in_short in_long_at in_long_value) object k) }
 {
-    let found = incoming::entry_at(
+    let side = lent::incoming(
         sources,
         places,
         in_bases,
         in_short,
         in_long_at,
         in_long_value,
-        object,
-        k,
     );
-    let says = answer_numbers::entry(found);
-    *answer = says;
+    let found = side.entry_at(object, k);
+    *answer = answer_numbers::numbers(found);
 }

@@ -4,6 +4,7 @@
 
 pub mod builds;
 pub mod holders;
+mod lent;
 pub mod parts;
 pub mod questions;
 pub mod slots;

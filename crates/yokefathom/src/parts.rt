@@ -85,6 +85,5 @@ pub extern "C" fn yokefathom_from_parts(
         counting,
         ranking,
     );
-    let says = answer_builds::built(built);
-    *answer = says;
+    *answer = answer_builds::built(built);
 }

@@ -15,6 +15,8 @@ ghost use Rattle.answer_numbers.specs.Told.{told};
 ghost use Rattle.answer_replies.specs.Reply.{span_number, reply_of};
 ghost use Rattle.yokefathom.specs.Calls.{EdgesTold, EachTold, ExactTold, LabelTold};
 
+use super::lent;
+
 // Where the edges of an object sit in the target column.
 #[unsafe(no_mangle)]
 pub extern "C" fn yokefathom_span(
@@ -29,11 +31,9 @@ pub extern "C" fn yokefathom_span(
 )
     ensures { answer.new ≡ told 4 (span_of (offset_columns now_of bases short long_at long_value) (length edge_codes.now) (length targets.now) object) }
 {
-    let found = ask_span::span(
-        bases, short, long_at, long_value, edge_codes, targets, object,
-    );
-    let says = answer_numbers::span(found);
-    *answer = says;
+    let offsets = lent::offsets(bases, short, long_at, long_value);
+    let found = ask_span::span_within(offsets, edge_codes.len(), targets.len(), object);
+    *answer = answer_numbers::numbers(found);
 }
 
 // How many edges an object has.
@@ -50,11 +50,9 @@ pub extern "C" fn yokefathom_edge_count(
 )
     ensures { answer.new ≡ told 4 (count_of (span_of (offset_columns now_of bases short long_at long_value) (length edge_codes.now) (length targets.now) object)) }
 {
-    let found = ask_span::edge_count(
-        bases, short, long_at, long_value, edge_codes, targets, object,
-    );
-    let says = answer_numbers::edge_count(found);
-    *answer = says;
+    let offsets = lent::offsets(bases, short, long_at, long_value);
+    let found = ask_span::count_within(offsets, edge_codes.len(), targets.len(), object);
+    *answer = answer_numbers::numbers(found);
 }
 
 // The rows of an object's weak pairs.
@@ -69,8 +67,7 @@ pub extern "C" fn yokefathom_weak_referents(
     ensures { answer.new ≡ told 4 (weak_rows_of (length short.now) weak_from.now weak_to.now object) }
 {
     let found = ask_span::weak_referents(short, weak_from, weak_to, object);
-    let says = answer_numbers::weak_referents(found);
-    *answer = says;
+    *answer = answer_numbers::numbers(found);
 }
 
 // The field label of an edge of an object, or just `ARRAY_ELEMENT` for an element.
@@ -92,7 +89,7 @@ pub extern "C" fn yokefathom_coarse_label(
     ensures { let graph = edge_columns now_of bases short long_at long_value edge_codes targets fields escape_at escape_label in
         answer.new ≡ told 4 (coarse_at graph object edge) }
 {
-    let found = ask_label::coarse_label(
+    let graph = lent::strong(
         bases,
         short,
         long_at,
@@ -102,11 +99,9 @@ pub extern "C" fn yokefathom_coarse_label(
         fields,
         escape_at,
         escape_label,
-        object,
-        edge,
     );
-    let says = answer_numbers::coarse_label(found);
-    *answer = says;
+    let found = ask_label::coarse_label(graph, object, edge);
+    *answer = answer_numbers::numbers(found);
 }
 
 // The label of an edge of an object, an element's with its index.
@@ -128,7 +123,7 @@ pub extern "C" fn yokefathom_exact_label(
     ensures { let graph = edge_columns now_of bases short long_at long_value edge_codes targets fields escape_at escape_label in
         ExactTold graph object edge answer.new }
 {
-    let found = ask_label::exact_label(
+    let graph = lent::strong(
         bases,
         short,
         long_at,
@@ -138,11 +133,9 @@ pub extern "C" fn yokefathom_exact_label(
         fields,
         escape_at,
         escape_label,
-        object,
-        edge,
     );
-    let says = answer_numbers::exact_label(found);
-    *answer = says;
+    let found = ask_label::exact_label(graph, object, edge);
+    *answer = answer_numbers::numbers(found);
 }
 
 // The exact label of an object's first edge to a target.
@@ -164,7 +157,7 @@ pub extern "C" fn yokefathom_label_of(
     ensures { let graph = edge_columns now_of bases short long_at long_value edge_codes targets fields escape_at escape_label in
         LabelTold graph object target answer.new }
 {
-    let found = ask_label::label_of(
+    let graph = lent::strong(
         bases,
         short,
         long_at,
@@ -174,11 +167,9 @@ pub extern "C" fn yokefathom_label_of(
         fields,
         escape_at,
         escape_label,
-        object,
-        target,
     );
-    let says = answer_numbers::label_of(found);
-    *answer = says;
+    let found = ask_label::label_of(graph, object, target);
+    *answer = answer_numbers::numbers(found);
 }
 
 // The target of a field of an object.
@@ -200,7 +191,7 @@ pub extern "C" fn yokefathom_field(
     ensures { let graph = edge_columns now_of bases short long_at long_value edge_codes targets fields escape_at escape_label in
         answer.new ≡ told 4 (field_found graph object label) }
 {
-    let found = ask_field::field(
+    let graph = lent::strong(
         bases,
         short,
         long_at,
@@ -210,11 +201,9 @@ pub extern "C" fn yokefathom_field(
         fields,
         escape_at,
         escape_label,
-        object,
-        label,
     );
-    let says = answer_numbers::field(found);
-    *answer = says;
+    let found = ask_field::field(graph, object, label);
+    *answer = answer_numbers::numbers(found);
 }
 
 // The target of a field of an object, or where it has none its smallest weak target.
@@ -238,7 +227,7 @@ pub extern "C" fn yokefathom_referent(
     ensures { let graph = graph_columns now_of bases short long_at long_value edge_codes targets fields escape_at escape_label weak_from weak_to in
         answer.new ≡ told 4 (referent_found graph object label) }
 {
-    let found = ask_field::referent(
+    let graph = lent::graph(
         bases,
         short,
         long_at,
@@ -250,11 +239,9 @@ pub extern "C" fn yokefathom_referent(
         escape_label,
         weak_from,
         weak_to,
-        object,
-        label,
     );
-    let says = answer_numbers::referent(found);
-    *answer = says;
+    let found = ask_field::referent(graph, object, label);
+    *answer = answer_numbers::numbers(found);
 }
 
 // All edges of an object, their targets and exact labels from the front of the columns lent. Zeros behind them; or a refusal, and both columns zero.
@@ -277,7 +264,7 @@ pub extern "C" fn yokefathom_object_edges(
     ensures { let graph = edge_columns now_of bases short long_at long_value edge_codes targets fields escape_at escape_label in
         EdgesTold (edges_found graph object (length own_targets.old) (length own_labels.old)) answer.new own_targets.new own_labels.new }
 {
-    let found = ask_edges::object_edges(
+    let graph = lent::strong(
         bases,
         short,
         long_at,
@@ -287,12 +274,9 @@ pub extern "C" fn yokefathom_object_edges(
         fields,
         escape_at,
         escape_label,
-        object,
-        own_targets,
-        own_labels,
     );
-    let says = answer_numbers::object_edges(found);
-    *answer = says;
+    let found = ask_edges::object_edges(graph, object, own_targets, own_labels);
+    *answer = answer_numbers::numbers(found);
 }
 
 // A field of each object of a list: targets and marks from the front of the columns lent, zeros behind them; or a refusal at a position, and both columns zero.
@@ -316,7 +300,7 @@ pub extern "C" fn yokefathom_field_of_each(
     ensures { let graph = edge_columns now_of bases short long_at long_value edge_codes targets fields escape_at escape_label in
         EachTold (each_left (asks graph label) objects.now (length own_targets.old) (length found.old)) answer.new own_targets.new found.new }
 {
-    let asked = ask_each::field(
+    let graph = lent::strong(
         bases,
         short,
         long_at,
@@ -326,13 +310,9 @@ pub extern "C" fn yokefathom_field_of_each(
         fields,
         escape_at,
         escape_label,
-        objects,
-        label,
-        own_targets,
-        found,
     );
-    let says = answer_numbers::each_field(asked);
-    *answer = says;
+    let asked = ask_each::field(graph, objects, label, own_targets, found);
+    *answer = answer_numbers::numbers(asked);
 }
 
 // The questions by the short columns alone, in one number. Where that is 0 the call above is to be asked.
@@ -362,9 +342,8 @@ pub extern "C" fn yokefathom_lean_label_of(
 ) -> u64
     ensures { result ≡ reply_of (label_found (lean_edges now_of bases short edge_codes targets fields) object target) }
 {
-    let found = ask_short::label::label_of(
-        bases, short, edge_codes, targets, fields, object, target,
-    );
+    let graph = lent::lean(bases, short, edge_codes, targets, fields);
+    let found = graph.label_of(object, target);
     answer_replies::label_reply(found)
 }
 
@@ -380,8 +359,9 @@ pub extern "C" fn yokefathom_lean_field(
 ) -> u64
     ensures { result ≡ reply_of (field_found (lean_edges now_of bases short edge_codes targets fields) object label) }
 {
-    let found = ask_short_field::field(bases, short, edge_codes, targets, fields, object, label);
-    answer_replies::field_reply(found)
+    let graph = lent::lean(bases, short, edge_codes, targets, fields);
+    let found = ask_short_field::field(graph, object, label);
+    answer_replies::target_reply(found)
 }
 
 #[unsafe(no_mangle)]
@@ -398,10 +378,9 @@ pub extern "C" fn yokefathom_lean_referent(
 ) -> u64
     ensures { result ≡ reply_of (referent_found (lean_columns now_of bases short edge_codes targets fields weak_from weak_to) object label) }
 {
-    let found = ask_short_field::referent(
-        bases, short, edge_codes, targets, fields, weak_from, weak_to, object, label,
-    );
-    answer_replies::referent_reply(found)
+    let graph = lent::lean(bases, short, edge_codes, targets, fields);
+    let found = ask_short_field::referent(graph, weak_from, weak_to, object, label);
+    answer_replies::target_reply(found)
 }
 
 // All edges of an object, and 2 more than how many they are; after a 0 both columns are zero.
@@ -419,14 +398,6 @@ pub extern "C" fn yokefathom_lean_object_edges(
     ensures { let graph = lean_edges now_of bases short edge_codes targets fields in
         EdgesReplied (edges_found graph object (length own_targets.old) (length own_labels.old)) result own_targets.new own_labels.new }
 {
-    ask_short_edges::object_edges(
-        bases,
-        short,
-        edge_codes,
-        targets,
-        fields,
-        object,
-        own_targets,
-        own_labels,
-    )
+    let graph = lent::lean(bases, short, edge_codes, targets, fields);
+    ask_short_edges::object_edges(graph, object, own_targets, own_labels)
 }

@@ -4,7 +4,7 @@ ghost use Rattle.slot_rows.specs.Rows.{filled_says, left, rows_of};
 ghost use Rattle.answer_numbers.specs.Told.{told};
 ghost use Rattle.yokefathom.specs.Calls.{SlotsTold};
 
-use slot_rows::{Filled, SlotRow};
+use slot_rows::{FillError, SlotRow};
 
 // The rows written, zeros behind them; or ROOM, and all three columns zero.
 #[unsafe(no_mangle)]
@@ -49,7 +49,7 @@ pub extern "C" fn yokefathom_fill_columns(
 }
 
 // What filling answered, as numbers.
-fn tell(filled: Filled, answer: &mut [u64; 4])
+fn tell(filled: Result<usize, FillError>, answer: &mut [u64; 4])
     ensures { answer.new ≡ told 4 (filled_says filled) }
 {
     *answer = answer_builds::filled(filled);

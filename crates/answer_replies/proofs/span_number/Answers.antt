@@ -1,23 +1,23 @@
--- `answer_replies::span_number` meets its contract: case by case. Assumes nothing.
+-- `answer_replies::span_number` meets its contract: a span is packed, and a refusal is 0. Assumes nothing.
+use mathlib.Core.Path.{◌≡◌, refl, sym, ap, ◌∙◌}
 use Prim.Native.Nat.{ℕ}
-use mathlib.Core.Path.{sym, ap, ◌∙◌}
-use Rattle.rules.specs.declared.Span.{Span}
+use Rattle.std.specs.Prelude.{Result}
+use Rattle.store_read.specs.declared.ReadError.{ReadError}
+use Rattle.store_read.specs.declared.ReadError.TheVariants.{Index, Columns}
 use Rattle.columns.specs.Lists.{all_of}
 use Rattle.columns.specs.Columns.{accepts}
-use Rattle.rules.specs.Types.{span_says}
+use Rattle.rules.specs.declared.Span.{Span}
+use Rattle.rules.specs.Types.{span_says, read_error_says}
 use Rattle.answer_replies.specs.Reply.{span_number}
 use Rattle.answer_replies.proofs.span_number.Goals as goal
 
-abbrev numbers : Span → ℕ
-numbers a = span_number (span_says a)
+abbrev number : Result Span ReadError → ℕ
+number a = span_number (span_says a)
 
-pub returns-in-Edges : goal.returns-in-Edges
-returns-in-Edges c = c.packed.ensures ∙ sym (ap numbers c.in-Edges.is)
+none : (e : ReadError) → span_number (read_error_says e) ≡ 0
+unfolding span_number all_of accepts
+none (Index i) = refl
+none (Columns o) = refl
 
-pub returns-in-Index : goal.returns-in-Index
-unfolding span_number accepts all_of
-returns-in-Index c = sym (ap numbers c.in-Index.is)
-
-pub returns-in-Columns : goal.returns-in-Columns
-unfolding span_number accepts all_of
-returns-in-Columns c = sym (ap numbers c.in-Columns.is)
+pub returns-in-Err : goal.returns-in-Err
+returns-in-Err c = sym (ap number c.in-Err.is ∙ none _)

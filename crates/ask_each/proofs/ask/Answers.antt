@@ -1,9 +1,7 @@
 -- `ask_each::ask` meets its contract: the answers below i stand in the columns, and behind them the spans of the others. Assumes nothing.
-use Prim.Native.Nat.{◌-◌}
 use mathlib.Core.Path.{sym, ◌∙◌}
 use native.Mathlib.Omega.{arith}
-use Rattle.rules.specs.Questions.{Columns}
-use Rattle.ask_span.specs.Graph.{edge_columns}
+use Rattle.ask_span.specs.Graph.{strong_in}
 use Rattle.ask_each.proofs.Answers.{asking_start, onward_on, onward-row, onward-kept, onward_refused, onward-end}
 use Rattle.ask_each.proofs.ask.Goals as goal
 
@@ -36,17 +34,13 @@ loop-i-smaller-then-done c = let r = c.run-at.ensures in
 
 pub loop-i-preserved-then-done : goal.loop-i-preserved-then-done
 loop-i-preserved-then-done c =
-    let graph : Columns =
-    let a = c.args in
-    edge_columns (λ x. x.now) a.bases a.short a.long_at a.long_value a.edge_codes a.targets a.fields a.escape_at a.escape_label in
+    let graph = strong_in c.args.graph in
     let on = onward_on graph c.args.label c.args.objects.now c.loop-i.invariant c.run-at.ensures in
     onward-row graph c.args.label c.args.objects.now on c.row-done.ensures c.if-done.true (sym c.field-answer.ensures) c.if-at-objects.true c.requires.objects_in_bounds.0 c.requires.objects_in_bounds.1
 
 pub returns-else-done : goal.returns-else-done
 returns-else-done c =
-    let graph : Columns =
-    let a = c.args in
-    edge_columns (λ x. x.now) a.bases a.short a.long_at a.long_value a.edge_codes a.targets a.fields a.escape_at a.escape_label in
+    let graph = strong_in c.args.graph in
     let r = c.row-done.ensures in
     let on = onward_on graph c.args.label c.args.objects.now c.loop-i.invariant c.run-at.ensures in
     let stays = onward-kept graph c.args.label c.args.objects.now on r c.if-done.false in
@@ -60,7 +54,5 @@ loop-i-preserved c = onward_on _ _ _ c.loop-i.invariant c.run-at.ensures
 
 pub returns : goal.returns
 returns c =
-    let graph : Columns =
-    let a = c.args in
-    edge_columns (λ x. x.now) a.bases a.short a.long_at a.long_value a.edge_codes a.targets a.fields a.escape_at a.escape_label in
+    let graph = strong_in c.args.graph in
     onward-end graph c.args.label c.args.objects.now c.loop-i.invariant c.loop-i-test.false c.requires.objects_in_bounds.0 c.requires.objects_in_bounds.1

@@ -1,10 +1,8 @@
 -- `ask_each::field` meets its contract: ROOM, or the list asked over its spans, settled. Assumes nothing.
 use mathlib.Core.Path.{sym, ◌∙◌}
-use mathlib.Core.List.{List}
-use Prim.Native.Nat.{ℕ}
 use native.Mathlib.Omega.{arith}
 use lib.ListN.{length}
-use Rattle.ask_span.specs.Graph.{edge_columns}
+use Rattle.ask_span.specs.Graph.{strong_in}
 use Rattle.ask_each.specs.Listed.{asks}
 use Rattle.ask_each_spans.proofs.Offsets.{told_wider}
 use Rattle.ask_each.proofs.Answers.{room_for, each_room, each-asked}
@@ -12,9 +10,7 @@ use Rattle.ask_each.proofs.field.Goals as goal
 
 pub returns-then-lacks : goal.returns-then-lacks
 returns-then-lacks c =
-    let single : ℕ → List ℕ =
-    let a = c.args in
-    asks (edge_columns (λ x. x.now) a.bases a.short a.long_at a.long_value a.edge_codes a.targets a.fields a.escape_at a.escape_label) a.label in
+    let single = asks (strong_in c.args.graph) c.args.label in
     each_room single c.args.objects.now c.args.own_targets.now c.args.found.now (sym c.lacks_room-lacks.ensures ∙ c.if-lacks.true) c.settle.ensures
 
 pub spans-requires : goal.spans-requires
@@ -29,9 +25,7 @@ ask-answer-requires c = let p = c.spans.ensures in
 
 pub returns : goal.returns
 returns c =
-    let single : ℕ → List ℕ =
-    let a = c.args in
-    asks (edge_columns (λ x. x.now) a.bases a.short a.long_at a.long_value a.edge_codes a.targets a.fields a.escape_at a.escape_label) a.label in
+    let single = asks (strong_in c.args.graph) c.args.label in
     let p = c.spans.ensures in
     each-asked single c.args.objects.now c.args.own_targets.now c.args.found.now (sym c.lacks_room-lacks.ensures ∙ c.if-lacks.false) p.same_targets p.same_found
     c.ask-answer.ensures c.settle-2.ensures

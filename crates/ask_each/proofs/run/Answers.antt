@@ -1,9 +1,8 @@
 -- `ask_each::run` meets its contract: the answers below i stand in the columns, and behind them the spans of the others. Assumes nothing.
-use Prim.Native.Nat.{◌-◌}
-use mathlib.Core.Path.{refl, sym, ◌∙◌}
+use lib.ListN.{length}
+use mathlib.Core.Path.{◌≡◌, refl, sym, ◌∙◌}
 use native.Mathlib.Omega.{arith}
-use Rattle.rules.specs.Questions.{Columns}
-use Rattle.ask_span.specs.Graph.{edge_columns}
+use Rattle.ask_span.specs.Graph.{strong_in}
 use Rattle.ask_each.proofs.Single.{quick_whole}
 use Rattle.ask_each.proofs.Answers.{onward_start, onward-row, onward-kept}
 use Rattle.ask_each.proofs.run.Goals as goal
@@ -27,20 +26,16 @@ pub row-done-requires : goal.row-done-requires
 row-done-requires c = let p = c.requires.objects_in_bounds in
     (omega (arith, c.loop-i-test.true, c.loop-i.invariant.same_targets, p.0), omega (arith, c.loop-i-test.true, c.loop-i.invariant.same_found, p.1))
 
-pub overflow_add-i : goal.overflow_add-i
-overflow_add-i c = omega (arith, c.loop-i-test.true, c.well_formed)
-
 pub loop-i-preserved : goal.loop-i-preserved
 loop-i-preserved c =
-    let graph : Columns =
-    let a = c.args in
-    edge_columns (λ x. x.now) a.bases a.short a.long_at a.long_value a.edge_codes a.targets a.fields a.escape_at a.escape_label in
+    let graph = strong_in c.args.graph in
     let r = c.row-done.ensures in
-    let is = quick_whole graph _ c.args.label refl c.by_codes-answer.ensures (sym r.answer ∙ c.if-done.true) in
-    onward-row graph c.args.label c.args.objects.now c.loop-i.invariant r c.if-done.true (sym is) c.loop-i-test.true c.requires.objects_in_bounds.0 c.requires.objects_in_bounds.1
+    let is = quick_whole graph _ c.args.label refl c.by_codes-answer.ensures (sym r.answer ∙ c.if-not-done.false) in
+    onward-row graph c.args.label c.args.objects.now c.loop-i.invariant r c.if-not-done.false (sym is) c.loop-i-test.true c.requires.objects_in_bounds.0 c.requires.objects_in_bounds.1
 
-pub returns-else-done : goal.returns-else-done
-returns-else-done c = onward-kept _ _ _ c.loop-i.invariant c.row-done.ensures c.if-done.false
+pub returns-then-not-done : goal.returns-then-not-done
+returns-then-not-done c = onward-kept _ _ _ c.loop-i.invariant c.row-done.ensures c.if-not-done.true
 
 pub returns : goal.returns
-returns c = c.loop-i.invariant
+returns c = let e : c.loop-i.i ≡ length c.args.objects.now = omega (arith, c.loop-i.invariant.asking.within) in
+    rw e at c.loop-i.invariant

@@ -1,5 +1,4 @@
 -- `ask_each_codes::first_code` meets its contract: each code before k says a field with another label, or an element. Assumes nothing.
-use Rattle.std.proofs.Common.{◌-◌}
 use Rattle.columns.proofs.First.{Searching}
 use Rattle.ask_field.specs.Sought.{stops}
 use Rattle.ask_short.specs.Lean.{plain_of}
@@ -7,6 +6,3 @@ use Rattle.ask_each_codes.proofs.first_code.Given as goal
 
 abbrev pub invariant-loop-k : goal.invariant-loop-k
 invariant-loop-k l = Searching (stops (plain_of l.edge_codes l.fields) l.start l.label) l.count l.k
-
-abbrev pub decreases-loop-k : goal.decreases-loop-k
-decreases-loop-k l = l.count - l.k

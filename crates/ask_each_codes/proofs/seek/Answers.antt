@@ -1,12 +1,13 @@
 -- `ask_each_codes::seek` meets its contract: at each return the tests that led there say which case of `sought_in` holds. Assumes nothing.
-use Rattle.std.proofs.Common.{◌∙◌}
+use mathlib.Core.Path.{ap, ◌∙◌}
+use Rattle.std.specs.Prelude.{Ok}
 use Rattle.ask_field.proofs.Fields.{sought_element, sought_other, sought_field}
 use Rattle.ask_short.specs.Lean.{plain_of}
 use Rattle.ask_each_codes.proofs.seek.Goals as goal
 
 pub returns-then-label-eq-ARRAY_ELEMENT : goal.returns-then-label-eq-ARRAY_ELEMENT
 returns-then-label-eq-ARRAY_ELEMENT c = let a = c.args in
-    λ q. c.first_element.ensures ∙ sought_element (plain_of a.edge_codes.now a.fields.now) a.start a.count a.label c.if-label-eq-ARRAY_ELEMENT.true
+    λ q. ap Ok c.first_element.ensures ∙ sought_element (plain_of a.edge_codes.now a.fields.now) a.start a.count a.label c.if-label-eq-ARRAY_ELEMENT.true
 
 pub returns-then-label-ge-ARRAY_ELEMENT : goal.returns-then-label-ge-ARRAY_ELEMENT
 returns-then-label-ge-ARRAY_ELEMENT c = let a = c.args in

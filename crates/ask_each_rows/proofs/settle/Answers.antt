@@ -9,6 +9,6 @@ returns c = let a = c.args in
     let end = c.each_kept-end.ensures in
     record {
       answer = refl;
-      targets = c.zero_u32.ensures ∙ ap (λ (k : ℕ). cleared k a.own_targets.now) end;
-      found = c.zero_u8.ensures ∙ ap (λ (k : ℕ). cleared k a.found.now) end;
+      targets = c.zero.ensures ∙ ap (λ (k : ℕ). cleared k a.own_targets.now) end;
+      found = c.zero-2.ensures ∙ ap (λ (k : ℕ). cleared k a.found.now) end;
     }

@@ -1,11 +1,7 @@
 -- `ask_edge::first_to` meets its contract: no edge before k goes to the target. Assumes nothing.
-use Prim.Native.Nat.{◌-◌}
 use Rattle.columns.proofs.First.{Searching}
 use Rattle.ask_edge.specs.Edge.{goes_to}
 use Rattle.ask_edge.proofs.first_to.Given as goal
 
 abbrev pub invariant-loop-k : goal.invariant-loop-k
 invariant-loop-k l = Searching (goes_to l.targets l.start l.target) l.count l.k
-
-abbrev pub decreases-loop-k : goal.decreases-loop-k
-decreases-loop-k l = l.count - l.k

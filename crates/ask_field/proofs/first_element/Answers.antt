@@ -1,5 +1,4 @@
 -- `ask_field::first_element` meets its contract: no edge before k is an element's. Assumes nothing.
-use Prim.Native.Nat.{◌-◌}
 use borrow.Author.Tests.{le-leb, lt-leb}
 use Rattle.columns.proofs.First.{searching_start, searching_more}
 use Rattle.ask_field.proofs.Placed.{placed-hit, placed_end}

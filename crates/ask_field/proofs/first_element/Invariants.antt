@@ -1,5 +1,4 @@
 -- `ask_field::first_element` meets its contract: no edge before k is an element's. Assumes nothing.
-use Prim.Native.Nat.{◌-◌}
 use mathlib.Core.List.{[]}
 use Rattle.columns.proofs.First.{Searching}
 use Rattle.labels.specs.Reading.{coded_of}
@@ -8,6 +7,3 @@ use Rattle.ask_field.proofs.first_element.Given as goal
 
 abbrev pub invariant-loop-k : goal.invariant-loop-k
 invariant-loop-k l = Searching (element_at (coded_of l.edge_codes [] [] []) l.start) l.count l.k
-
-abbrev pub decreases-loop-k : goal.decreases-loop-k
-decreases-loop-k l = l.count - l.k

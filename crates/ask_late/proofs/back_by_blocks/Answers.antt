@@ -2,7 +2,7 @@
 use mathlib.Core.Path.{sym, ◌∙◌}
 use Prim.Native.Nat.{◌+◌, ◌-◌, ◌<◌}
 use native.Mathlib.Omega.{arith}
-use Rattle.labels.specs.Reading.{coded_of}
+use Rattle.labels.specs.Reading.{coded_in}
 use Rattle.ask_late.specs.Late.{block_steps}
 use Rattle.ask_late.proofs.Steps.{back_start, block_passed, block_far}
 use Rattle.ask_late.proofs.back_by_blocks.Goals as goal
@@ -18,14 +18,14 @@ overflow_add-steps c = omega (arith, c.loop-left.invariant.high)
 
 pub returns-then-steps-gt-ARRAY_ELEMENT : goal.returns-then-steps-gt-ARRAY_ELEMENT
 returns-then-steps-gt-ARRAY_ELEMENT c = let a = c.args in
-    let d = coded_of a.edge_codes.now a.fields.now a.escape_at.now a.escape_label.now in
-    let few : block_steps a.edge_codes.now (a.start + (c.loop-left.left - 32)) < 67108864 = omega (arith, c.block_steps-more.ensures) in
+    let d = coded_in a.coded in
+    let few : block_steps a.coded.codes.now (a.start + (c.loop-left.left - 32)) < 67108864 = omega (arith, c.block_steps-more.ensures) in
     block_far d a.start a.k a.first _ _ c.loop-left.invariant c.loop-left-test.true few (omega (arith, c.block_steps-more.ensures))
 
 pub loop-left-preserved : goal.loop-left-preserved
 loop-left-preserved c = let a = c.args in
-    let d = coded_of a.edge_codes.now a.fields.now a.escape_at.now a.escape_label.now in
-    let few : block_steps a.edge_codes.now (a.start + (c.loop-left.left - 32)) < 67108864 = omega (arith, c.block_steps-more.ensures) in
+    let d = coded_in a.coded in
+    let few : block_steps a.coded.codes.now (a.start + (c.loop-left.left - 32)) < 67108864 = omega (arith, c.block_steps-more.ensures) in
     rw c.block_steps-more.ensures (block_passed d a.start a.k a.first _ _ c.loop-left.invariant c.loop-left-test.true few (omega (arith, c.block_steps-more.ensures)))
 
 pub returns : goal.returns

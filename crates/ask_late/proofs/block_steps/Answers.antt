@@ -1,5 +1,4 @@
 -- `ask_late::block_steps` meets its contract: sum has the steps of the first i codes of the block. Assumes nothing.
-use Prim.Native.Nat.{◌-◌}
 use native.Mathlib.Omega.{arith}
 use Rattle.ask_late.proofs.Steps.{summed_start, summed_more, summed_end}
 use Rattle.ask_late.proofs.block_steps.Goals as goal

@@ -1,10 +1,6 @@
 -- `ask_late::block_steps` meets its contract: sum has the steps of the first i codes of the block. Assumes nothing.
-use Prim.Native.Nat.{◌-◌}
 use Rattle.ask_late.proofs.Steps.{Summed}
 use Rattle.ask_late.proofs.block_steps.Given as goal
 
 abbrev pub invariant-loop-i : goal.invariant-loop-i
 invariant-loop-i l = Summed l.edge_codes l.from l.sum l.i
-
-abbrev pub decreases-loop-i : goal.decreases-loop-i
-decreases-loop-i l = 32 - l.i

@@ -12,4 +12,4 @@ returns-then-index-ge-ARRAY_ELEMENT c = simp (le-ltb _ _ c.if-index-ge-ARRAY_ELE
 pub returns : goal.returns
 returns c = let l : c.args.index < array_element_label = omega arith in
     let whole : c.args.index % array_element_label ≡ c.args.index = omega arith in
-    simp (c.element-label.ensures, whole, lt-ltb _ _ l)
+    simp (c.element.ensures, whole, lt-ltb _ _ l)

@@ -10,4 +10,4 @@ returns-then-read-count c = let few = lt-ltb _ _ c.if-read-count.true in
 
 pub returns : goal.returns
 returns c = let all = le-ltb _ _ c.if-read-count.false in
-    record { reply = sym (rw all); targets = rw all c.zero_u32.ensures; labels = rw all c.zero_u32-2.ensures }
+    record { reply = sym (rw all); targets = rw all c.zero.ensures; labels = rw all c.zero-2.ensures }

@@ -1,43 +1,24 @@
--- `ask_short_field::referent` meets its contract: by the span, by what was sought, and by the weak pairs. Assumes nothing.
-use mathlib.Core.Path.{refl, sym, ap, ◌∙◌}
-use mathlib.Core.List.{[], ◌∷◌}
+-- `ask_short_field::referent` meets its contract: by the field, then the weak pairs. Assumes nothing.
+use mathlib.Core.Path.{sym, ap, ◌∙◌}
+use mathlib.Core.List.{◌∷◌}
 use Prim.Native.Nat.{ℕ}
-use native.Mathlib.Omega.{arith}
-use Rattle.columns.specs.Columns.{accepts}
-use Rattle.rules.specs.Types.{span_says}
-use Rattle.ask_span.proofs.Spans.{span_inside}
-use Rattle.ask_field.proofs.Fields.{sought_within, field_is, field_refused, referent-field, referent-weak, referent_refused}
+use Rattle.std.specs.Prelude.{Option}
+use Rattle.std.proofs.lemmas.Result.{err_from_is_err_and}
+use Rattle.rules.specs.Types.{found_values}
+use Rattle.rules.proofs.Types.{read_refuses}
+use Rattle.ask_field.specs.Sought.{field_found}
+use Rattle.ask_field.proofs.Fields.{referent-field, referent-weak, referent_refused}
 use Rattle.ask_short_field.proofs.referent.Goals as goal
 
-pub overflow_sub-end : goal.overflow_sub-end
-overflow_sub-end c = (span_inside _ _ _ _ (sym c.span-at.ensures ∙ ap span_says c.in-Edges.is)).ordered
+pub returns-in_err-t : goal.returns-in_err-t
+unfolding field_found
+returns-in_err-t c = let p = err_from_is_err_and c.from_residual.result c.from_residual.ensures.1 in
+    rw (p.1, p.2) (referent_refused _ _ _ c.in_err-t.ensures (read_refuses c.in_err-t.field-0.0))
 
-pub seek-sought-requires : goal.seek-sought-requires
-seek-sought-requires c = let i = span_inside _ _ _ _ (sym c.span-at.ensures ∙ ap span_says c.in-Edges.is) in omega (arith, i.ordered, i.coded)
+pub returns-in-Some : goal.returns-in-Some
+unfolding field_found
+returns-in-Some c = referent-field _ _ _ (sym (ap (λ (t : Option ℕ). 0 ∷ found_values t) c.in-Some.is) ∙ c.in_ok-t.ensures)
 
-pub overflow_add-start : goal.overflow_add-start
-overflow_add-start c = let i = span_inside _ _ _ _ (sym c.span-at.ensures ∙ ap span_says c.in-Edges.is) in
-    omega (arith, i.ordered, i.targeted, sought_within _ _ _ _ (sym c.in-At.is ∙ c.seek-sought.ensures))
-
-pub target_at-requires : goal.target_at-requires
-target_at-requires c = let i = span_inside _ _ _ _ (sym c.span-at.ensures ∙ ap span_says c.in-Edges.is) in
-    omega (arith, i.ordered, i.targeted, sought_within _ _ _ _ (sym c.in-At.is ∙ c.seek-sought.ensures))
-
-pub returns-in-At : goal.returns-in-At
-returns-in-At c = ap (λ (t : ℕ). 0 ∷ t ∷ []) c.target_at.ensures
-    ∙ referent-field _ _ _ (field_is _ _ _ (sym c.span-at.ensures ∙ ap span_says c.in-Edges.is) (sym c.in-At.is ∙ c.seek-sought.ensures))
-
-pub returns-in-Nothing : goal.returns-in-Nothing
-returns-in-Nothing c = referent-weak _ _ _ (field_is _ _ _ (sym c.span-at.ensures ∙ ap span_says c.in-Edges.is) (sym c.in-Nothing.is ∙ c.seek-sought.ensures)) c.first_weak.ensures
-
-pub returns-in-Bad : goal.returns-in-Bad
-unfolding accepts
-returns-in-Bad c = referent_refused _ _ _ (field_is _ _ _ (sym c.span-at.ensures ∙ ap span_says c.in-Edges.is) (sym c.in-Bad.is ∙ c.seek-sought.ensures)) refl
-
-pub returns-in-Index : goal.returns-in-Index
-unfolding accepts
-returns-in-Index c = referent_refused _ _ _ (field_refused _ _ _ (sym (ap span_says c.in-Index.is) ∙ c.span-at.ensures) refl) refl
-
-pub returns-in-Columns : goal.returns-in-Columns
-unfolding accepts
-returns-in-Columns c = referent_refused _ _ _ (field_refused _ _ _ (sym (ap span_says c.in-Columns.is) ∙ c.span-at.ensures) refl) refl
+pub returns-in-None : goal.returns-in-None
+unfolding field_found
+returns-in-None c = referent-weak _ _ _ (sym (ap (λ (t : Option ℕ). 0 ∷ found_values t) c.in-None.is) ∙ c.in_ok-t.ensures) c.first_weak.ensures

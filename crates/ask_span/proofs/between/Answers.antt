@@ -1,32 +1,14 @@
 -- `ask_span::between` meets its contract: by the two answers. Assumes nothing.
-use mathlib.Core.Path.{sym, ap, ◌∙◌}
-use mathlib.Core.List.{[], ◌∷◌}
-use Rattle.columns.specs.Lists.{all_of}
-use Rattle.columns.specs.Columns.{accepts}
-use Rattle.store.specs.Blocked.{offset_says}
-use Rattle.ask_span.specs.Reading.{ended}
+use mathlib.Core.Path.{sym, ◌∙◌}
+use Rattle.rules.proofs.Types.{read_refuses}
+use Rattle.ask_span.proofs.Spans.{first_refused, next_refused}
 use Rattle.ask_span.proofs.between.Goals as goal
 
-pub returns-in-Value-next : goal.returns-in-Value-next
-returns-in-Value-next c = let a = c.args in
-    c.within.ensures ∙ sym (ap (λ f. ended (offset_says f) (offset_says a.next) a.codes a.targets a.object) c.in-Value.is ∙ ap (λ f. ended (0 ∷ c.in-Value.start ∷ []) (offset_says f) a.codes a.targets a.object) c.in-Value-next.is)
+pub returns-in_default : goal.returns-in_default
+returns-in_default c = first_refused _ _ _ _ _ (rw c.in_default.is (read_refuses c.in_default.field-0))
 
-pub returns-in-Index-next : goal.returns-in-Index-next
-unfolding ended all_of accepts
-returns-in-Index-next c = let a = c.args in
-    sym (ap (λ f. ended (offset_says f) (offset_says a.next) a.codes a.targets a.object) c.in-Value.is ∙ ap (λ f. ended (0 ∷ c.in-Value.start ∷ []) (offset_says f) a.codes a.targets a.object) c.in-Index-next.is)
+pub returns-in_default-next : goal.returns-in_default-next
+returns-in_default-next c = next_refused _ _ _ _ _ (rw c.in_default-next.is (read_refuses c.in_default-next.field-0))
 
-pub returns-in-Columns-next : goal.returns-in-Columns-next
-unfolding ended all_of accepts
-returns-in-Columns-next c = let a = c.args in
-    sym (ap (λ f. ended (offset_says f) (offset_says a.next) a.codes a.targets a.object) c.in-Value.is ∙ ap (λ f. ended (0 ∷ c.in-Value.start ∷ []) (offset_says f) a.codes a.targets a.object) c.in-Columns-next.is)
-
-pub returns-in-Index : goal.returns-in-Index
-unfolding ended all_of accepts
-returns-in-Index c = let a = c.args in
-    sym (ap (λ f. ended (offset_says f) (offset_says a.next) a.codes a.targets a.object) c.in-Index.is)
-
-pub returns-in-Columns : goal.returns-in-Columns
-unfolding ended all_of accepts
-returns-in-Columns c = let a = c.args in
-    sym (ap (λ f. ended (offset_says f) (offset_says a.next) a.codes a.targets a.object) c.in-Columns.is)
+pub returns : goal.returns
+returns c = c.within.ensures ∙ sym (simp (c.in-Ok.is, c.in-Ok-next.is))

@@ -1,22 +1,19 @@
 -- `ask_span::count_within` meets its contract: by the span. Assumes nothing.
-use mathlib.Core.Path.{sym, ap, ◌∙◌}
+use mathlib.Core.Path.{sym, ap}
+use Rattle.std.proofs.lemmas.Result.{err_from_is_err_and}
 use Rattle.columns.specs.Columns.{accepts}
-use Rattle.rules.specs.Types.{span_says}
+use Rattle.rules.proofs.Types.{read_refuses}
 use Rattle.ask_span.specs.Reading.{count_of}
-use Rattle.ask_span.proofs.Spans.{span_inside}
+use Rattle.ask_span.proofs.Spans.{span_inside, count_refused}
 use Rattle.ask_span.proofs.count_within.Goals as goal
 
 pub overflow_sub-result : goal.overflow_sub-result
-overflow_sub-result c = (span_inside _ _ _ _ (sym c.span_within-at.ensures ∙ ap span_says c.in-Edges.is)).ordered
+overflow_sub-result c = (span_inside _ _ _ _ (sym c.in_ok-at.ensures)).ordered
 
-pub returns-in-Edges : goal.returns-in-Edges
-unfolding count_of accepts
-returns-in-Edges c = sym (ap count_of (sym c.span_within-at.ensures ∙ ap span_says c.in-Edges.is))
+pub returns-in_err-at : goal.returns-in_err-at
+returns-in_err-at c = let p = err_from_is_err_and c.from_residual.result c.from_residual.ensures.1 in
+    rw (p.1, p.2) (count_refused _ c.in_err-at.ensures (read_refuses c.in_err-at.field-0.0))
 
-pub returns-in-Index : goal.returns-in-Index
+pub returns : goal.returns
 unfolding count_of accepts
-returns-in-Index c = sym (ap count_of (sym c.span_within-at.ensures ∙ ap span_says c.in-Index.is))
-
-pub returns-in-Columns : goal.returns-in-Columns
-unfolding count_of accepts
-returns-in-Columns c = sym (ap count_of (sym c.span_within-at.ensures ∙ ap span_says c.in-Columns.is))
+returns c = ap count_of c.in_ok-at.ensures

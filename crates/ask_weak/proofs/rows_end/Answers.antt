@@ -15,4 +15,4 @@ returns-then-index-object c = simp (lt-ltb _ _ c.if-weak_from-start.false, ne_eq
 
 pub returns : goal.returns
 unfolding weak_end all_of
-returns c = c.bisect_u32.ensures ∙ simp (lt-ltb _ _ c.if-weak_from-start.false, eq-eqb _ _ (sym c.index.ensures ∙ c.if-index-object.false))
+returns c = c.bisect.ensures ∙ simp (lt-ltb _ _ c.if-weak_from-start.false, eq-eqb _ _ (sym c.index.ensures ∙ c.if-index-object.false))

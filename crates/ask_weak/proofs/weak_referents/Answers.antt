@@ -20,14 +20,14 @@ returns-then-short-object-lt2 c = let none : length c.args.short.now - 1 ≤ c.a
 pub returns-then-end-start : goal.returns-then-end-start
 unfolding weak_rows_of all_of
 returns-then-end-start c = let some : c.args.object < length c.args.short.now - 1 = omega arith in
-    rw (lt-ltb _ _ some, ← c.bisect_u32-start.ensures, ← c.rows_end-end.ensures) (simp (lt-leb _ _ c.if-end-start.true))
+    rw (lt-ltb _ _ some, ← c.bisect-start.ensures, ← c.rows_end-end.ensures) (simp (lt-leb _ _ c.if-end-start.true))
 
 pub returns-then-weak_to-end : goal.returns-then-weak_to-end
 unfolding weak_rows_of all_of
 returns-then-weak_to-end c = let some : c.args.object < length c.args.short.now - 1 = omega arith in
-    rw (lt-ltb _ _ some, ← c.bisect_u32-start.ensures, ← c.rows_end-end.ensures) (simp (le-leb _ _ c.if-end-start.false, lt-leb _ _ c.if-weak_to-end.true))
+    rw (lt-ltb _ _ some, ← c.bisect-start.ensures, ← c.rows_end-end.ensures) (simp (le-leb _ _ c.if-end-start.false, lt-leb _ _ c.if-weak_to-end.true))
 
 pub returns : goal.returns
 unfolding weak_rows_of all_of
 returns c = let some : c.args.object < length c.args.short.now - 1 = omega arith in
-    rw (lt-ltb _ _ some, ← c.bisect_u32-start.ensures, ← c.rows_end-end.ensures) (simp (le-leb _ _ c.if-end-start.false, le-leb _ _ c.if-weak_to-end.false))
+    rw (lt-ltb _ _ some, ← c.bisect-start.ensures, ← c.rows_end-end.ensures) (simp (le-leb _ _ c.if-end-start.false, le-leb _ _ c.if-weak_to-end.false))

@@ -1,14 +1,17 @@
--- `build_edges::passed` meets its contract. A refusal's number is never 0. Assumes nothing.
-use mathlib.Core.Path.{sym, ap, ◌∙◌}
+-- `build_edges::passed` meets its contract: a refusal never accepts. Assumes nothing.
+use mathlib.Core.Path.{◌≡◌, refl, sym, ◌∙◌}
+use Prim.Native.Nat.{ℕ}
+use Rattle.std.specs.Prelude.{Result, Ok, Err, is_ok}
 use Rattle.columns.specs.Columns.{accepts}
-use Rattle.rules.specs.declared.Checked.{Checked}
+use Rattle.rules.specs.declared.Refusal.{Refusal}
 use Rattle.rules.specs.Types.{checked_says}
 use Rattle.rules.proofs.Types.{refusal_refuses}
 use Rattle.build_edges.proofs.passed.Goals as goal
 
-pub returns-in-Accepted : goal.returns-in-Accepted
+checked_ok : (c : Result ℕ Refusal) → accepts (checked_says c) ≡ is_ok c
 unfolding accepts
-returns-in-Accepted c = sym (ap (λ (k : Checked). accepts (checked_says k)) c.in-Accepted.is)
+checked_ok (Ok n) = refl
+checked_ok (Err r) = refusal_refuses r
 
-pub returns-in-Refused : goal.returns-in-Refused
-returns-in-Refused c = sym (ap (λ (k : Checked). accepts (checked_says k)) c.in-Refused.is ∙ refusal_refuses c.in-Refused.field-0)
+pub returns : goal.returns
+returns c = c.is_ok.ensures.value ∙ sym (checked_ok _)

@@ -1,14 +1,13 @@
 -- `build_rooms::edges_kept` meets its contract. Assumes nothing.
-use mathlib.Core.Path.{sym, ap, ◌∙◌}
+use mathlib.Core.Path.{◌≡◌, refl}
+use borrow.Author.Rules.{rules}
+use Rattle.std.specs.Prelude.{MatchResult}
 use Rattle.columns.specs.Columns.{accepts, kept}
-use Rattle.rules.specs.declared.Built.{Built}
-use Rattle.rules.specs.Types.{built_says}
-use Rattle.build_rooms.proofs.Tests.{kept_refused}
+use Rattle.build_rooms.proofs.Tests.{kept_case}
 use Rattle.build_rooms.proofs.edges_kept.Goals as goal
 
-pub returns-in-Done : goal.returns-in-Done
+pub returns : goal.returns
 unfolding kept accepts
-returns-in-Done c = sym (ap (λ (b : Built). kept 1 (built_says b)) c.in-Done.is)
-
-pub returns-in-Refused : goal.returns-in-Refused
-returns-in-Refused c = kept_refused 1 c.in-Refused.field-0 ∙ sym (ap (λ (b : Built). kept 1 (built_says b)) c.in-Refused.is)
+returns c =
+    let h : MatchResult c.args.v (λ n. c.map_or.result ≡ n.edges) (λ _. c.map_or.result ≡ 0) = search rules in
+    kept_case 1 (λ n. n.edges) (λ n. refl) c.args.v c.map_or.result h

@@ -1,21 +1,15 @@
--- `check_edge::first_target` meets its contract: by which of targets and labels are fewer.  Assumes nothing.
-use mathlib.Core.Path.{sym}
-use lib.Seq.{length-take-le}
-use Rattle.check_edge.proofs.Targets.{targets_more, targets-bad, targets_few, targets_clean}
+-- `check_edge::first_target` meets its contract: by which of targets and labels are fewer. Assumes nothing.
+use mathlib.Core.Logic.{⊎_elim}
 use native.Mathlib.Omega.{arith}
+use Rattle.check_edge.proofs.Targets.{target_bad, target_uneven, target_none}
 use Rattle.check_edge.proofs.first_target.Goals as goal
 
-pub slice_bounds-first_root-end : goal.slice_bounds-first_root-end
-slice_bounds-first_root-end c = sym (length-take-le _ _ (omega arith))
-
-pub returns-then-edges-targets : goal.returns-then-edges-targets
-returns-then-edges-targets c = let a = c.args in targets_more a.objects a.targets.now a.edges (omega arith) c.first_root-e.ensures
-
-pub returns-then-e-targets : goal.returns-then-e-targets
-returns-then-e-targets c = let a = c.args in targets-bad a.objects a.targets.now a.edges (omega arith) c.first_root-e-2.ensures (omega arith)
-
-pub returns-then-targets-edges : goal.returns-then-targets-edges
-returns-then-targets-edges c = let a = c.args in targets_few a.objects a.targets.now a.edges (omega arith) c.first_root-e-2.ensures (omega arith)
+pub returns-then-e-n : goal.returns-then-e-n
+returns-then-e-n c = let a = c.args in
+    ⊎_elim
+    (λ k. target_bad a.objects a.targets.now a.edges c.min-n.ensures c.first_root-e.ensures k)
+    (λ k. target_uneven a.objects a.targets.now a.edges c.min-n.ensures c.first_root-e.ensures (λ z. omega arith))
+    c.then-e-n.either
 
 pub returns : goal.returns
-returns c = let a = c.args in targets_clean a.objects a.targets.now a.edges (omega arith) c.first_root-e-2.ensures (omega arith) (omega arith)
+returns c = let a = c.args in target_none a.objects a.targets.now a.edges c.min-n.ensures c.first_root-e.ensures (omega arith) (omega arith)

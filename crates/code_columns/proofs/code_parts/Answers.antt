@@ -3,11 +3,8 @@ use mathlib.Core.Path.{refl, ◌∙◌}
 use native.Mathlib.Omega.{arith}
 use Rattle.rules.specs.Needs.{Lent}
 use Rattle.rules.specs.Tables.{coding_room}
-use Rattle.code_columns.proofs.Compose.{ready_offsets, ready_names, offsets-before, fields-before, space_before, codes-before, coded-whole}
+use Rattle.code_columns.proofs.Compose.{ready_names, offsets-before, fields-before, space_before, codes-before, coded-whole}
 use Rattle.code_columns.proofs.code_parts.Goals as goal
-
-pub offsets_stage-v1-requires : goal.offsets_stage-v1-requires
-offsets_stage-v1-requires c = λ y. ready_offsets (c.requires y)
 
 pub fields_room-v2-requires : goal.fields_room-v2-requires
 fields_room-v2-requires c = λ y.

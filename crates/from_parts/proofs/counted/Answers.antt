@@ -1,15 +1,15 @@
 -- `from_parts::counted` meets its contract. Case by case. Assumes nothing.
-use mathlib.Core.Path.{sym, ap, ◌∙◌}
+use mathlib.Core.Path.{sym}
+use Rattle.std.proofs.lemmas.Result.{err_from_is_err_and}
 use Rattle.columns.specs.Columns.{accepts}
-use Rattle.rules.specs.declared.Checked.{Checked}
-use Rattle.rules.specs.Types.{checked_says}
-use Rattle.from_parts.specs.Parts.{plain_says}
 use Rattle.from_parts.proofs.Whole.{refused_counted}
 use Rattle.from_parts.proofs.counted.Goals as goal
 
-pub returns-in-Accepted : goal.returns-in-Accepted
-unfolding accepts
-returns-in-Accepted c = ap (λ (z : Checked). plain_says (checked_says z) c.args.weak c.args.roots c.args.dangling) (sym c.in-Accepted.is)
+pub returns-in_err-c : goal.returns-in_err-c
+returns-in_err-c c = let a = c.args in
+    let p = err_from_is_err_and c.from_residual.result c.from_residual.ensures.1 in
+    rw (p.1, p.2, c.in_err-c.was) (sym (refused_counted c.in_err-c.field-0.0 a.weak a.roots a.dangling))
 
-pub returns-in-Refused : goal.returns-in-Refused
-returns-in-Refused c = sym (ap (λ (z : Checked). plain_says (checked_says z) c.args.weak c.args.roots c.args.dangling) c.in-Refused.is ∙ refused_counted c.in-Refused.r c.args.weak c.args.roots c.args.dangling)
+pub returns : goal.returns
+unfolding accepts
+returns c = rw c.in_ok-c.was

@@ -1,47 +1,12 @@
 -- `incoming_read::spans` meets its contract: not too many objects, and the first offset; the rest is the pass. Assumes nothing.
-use mathlib.Core.Path.{sym, ap, ◌∙◌}
-use Prim.Native.Nat.{ℕ}
-use lib.ListN.{length}
-use Rattle.columns.specs.Columns.{accepts}
-use Rattle.store.specs.Blocked.{Blocked, offset_says}
-use Rattle.rules.specs.Tables.{offset_columns}
-use Rattle.incoming_read.proofs.Spanning.{spans_many, spans_unstarted}
+use Rattle.incoming_read.proofs.Spanning.{offset_some, offset_none, spans_many, spans_unstarted}
 use Rattle.incoming_read.proofs.spans.Goals as goal
 
-pub returns-then-short-gt67108865 : goal.returns-then-short-gt67108865
-returns-then-short-gt67108865 c =
-    let offsets : Blocked =
-    let a = c.args in offset_columns (λ x. x.now) a.bases a.short a.long_at a.long_value in
-    let codes : ℕ =
-    length c.args.edge_codes.now in
-    let ends : ℕ =
-    length c.args.targets.now in
-    spans_many offsets codes ends c.if-short-gt67108865.true c.bad.ensures
+pub returns-then-graph-gt67108865 : goal.returns-then-graph-gt67108865
+returns-then-graph-gt67108865 c = spans_many _ _ _ c.if-graph-gt67108865.true
 
 pub spans_from-requires : goal.spans_from-requires
-spans_from-requires c = record { in_bounds = (c.requires, c.if-short-gt67108865.false); long_value_value = sym c.offset_at.ensures ∙ ap offset_says c.in-Value.is }
+spans_from-requires c = record { in_bounds = (c.requires, c.if-graph-gt67108865.false); long_value_value = offset_some _ c.in_ok-start.ensures.value c.at.ensures }
 
-pub returns-in-Value : goal.returns-in-Value
-returns-in-Value c = c.spans_from.ensures
-
-pub returns-in-Index : goal.returns-in-Index
-unfolding accepts
-returns-in-Index c =
-    let offsets : Blocked =
-    let a = c.args in offset_columns (λ x. x.now) a.bases a.short a.long_at a.long_value in
-    let codes : ℕ =
-    length c.args.edge_codes.now in
-    let ends : ℕ =
-    length c.args.targets.now in
-    spans_unstarted offsets codes ends c.requires (ap accepts (sym c.offset_at.ensures ∙ ap offset_says c.in-Index.is)) c.bad-in-Index.ensures
-
-pub returns-in-Columns : goal.returns-in-Columns
-unfolding accepts
-returns-in-Columns c =
-    let offsets : Blocked =
-    let a = c.args in offset_columns (λ x. x.now) a.bases a.short a.long_at a.long_value in
-    let codes : ℕ =
-    length c.args.edge_codes.now in
-    let ends : ℕ =
-    length c.args.targets.now in
-    spans_unstarted offsets codes ends c.requires (ap accepts (sym c.offset_at.ensures ∙ ap offset_says c.in-Columns.is)) c.bad-in-Columns.ensures
+pub returns-in_err-start : goal.returns-in_err-start
+returns-in_err-start c = rw c.from_residual.ensures (spans_unstarted _ _ _ c.requires (offset_none _ c.in_err-start.ensures.value c.at.ensures))

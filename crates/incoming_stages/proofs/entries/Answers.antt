@@ -5,4 +5,4 @@ use Rattle.incoming_stages.proofs.entries.Goals as goal
 
 pub returns : goal.returns
 unfolding entries_of
-returns c = c.between.ensures ∙ rw (c.offset_at-last.ensures, c.objects.ensures, c.offset_at-first.ensures)
+returns c = c.between.ensures ∙ rw (c.at-last.ensures, c.objects.ensures, c.at-first.ensures)

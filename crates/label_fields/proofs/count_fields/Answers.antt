@@ -10,17 +10,14 @@ use Rattle.label_fields.proofs.count_fields.Goals as goal
 pub returns-then-listed-le32767 : goal.returns-then-listed-le32767
 returns-then-listed-le32767 c = let a = c.args in
     let p = c.requires.0 in
-    c.count_marked-listed.ensures ∙ ap length (chosen_listed a.names a.table.now _ a.labels.now p.few p.long c.zero_u16.ensures
+    c.count_marked-listed.ensures ∙ ap length (chosen_listed a.names a.table.now _ a.labels.now p.few p.long c.zero.ensures
     c.mark_named.ensures c.count_marked-listed.ensures c.if-listed-le32767.true)
-
-pub count_marked-requires : goal.count_marked-requires
-count_marked-requires c = record { few = c.requires.0.few; long = omega (arith, c.requires.0.long) }
 
 pub returns : goal.returns
 returns c = let a = c.args in
     let p = c.requires.0 in
-    let e = occurring-count a.names _ a.labels.now p.few (omega (arith, p.long)) c.zero_u16-2.ensures
+    let e = occurring-count a.names _ a.labels.now p.few (omega (arith, p.long)) c.zero-2.ensures
     c.mark_slots.ensures c.count_marked.ensures in
-    let is = chosen_ranked a.names a.table.now _ a.labels.now p.few p.long c.zero_u16.ensures
+    let is = chosen_ranked a.names a.table.now _ a.labels.now p.few p.long c.zero.ensures
     c.mark_named.ensures c.count_marked-listed.ensures c.if-listed-le32767.false in
     c.coded_of.ensures ∙ ap (min 32767) e ∙ sym (first_size 32767 a.names a.labels.now) ∙ ap length (sym is)

@@ -1,12 +1,8 @@
 -- `label_ranks::count_uses` meets its contract: the first i labels are counted. Assumes nothing.
 use mathlib.Core.Path.{◌≡◌}
-use Prim.Native.Nat.{◌≤◌, ◌-◌}
-use lib.ListN.{length, take}
+use lib.ListN.{take}
 use Rattle.label_ranks.specs.Keys.{uses}
 use Rattle.label_ranks.proofs.count_uses.Given as goal
 
-abbrev pub invariant-loop-i : goal.invariant-loop-i
-invariant-loop-i l = (l.i ≤ length l.labels) × (length l.counting ≡ length l.initial.counting) × (l.counting ≡ uses l.names l.initial.counting (take l.i l.labels))
-
-abbrev pub decreases-loop-i : goal.decreases-loop-i
-decreases-loop-i l = length l.labels - l.i
+abbrev pub invariant-loop-label : goal.invariant-loop-label
+invariant-loop-label l = l.counting ≡ uses l.names l.initial.counting (take l.label-index l.labels)

@@ -8,6 +8,3 @@ within-requires c = held_up c.loop-over.invariant _ (omega arith) c.if-ids-at.tr
 
 pub loop-over-preserved : goal.loop-over-preserved
 loop-over-preserved c = held_down c.loop-over.invariant _ (omega arith) (omega arith) c.if-ids-at.false
-
-pub within-requires-2 : goal.within-requires-2
-within-requires-2 c = c.loop-over.invariant

@@ -2,12 +2,13 @@
 use native.Mathlib.Omega.{arith}
 use Rattle.lookup.proofs.Search.{sought_at, sought_missing}
 use Rattle.lookup.proofs.find_sorted.Goals as goal
+use Rattle.lookup.proofs.find_sorted.Goals.{else-k-ids-via-then-k-ids+else-ids-k, else-k-ids-via-else-k-ids}
 
 pub returns-then-ids-k : goal.returns-then-ids-k
-returns-then-ids-k c = sought_missing c.near-k.ensures (λ l. absurd (omega arith))
-
-pub returns-then-ids-k-2 : goal.returns-then-ids-k-2
-returns-then-ids-k-2 c = sought_at c.if-ids-k.false c.if-ids-k-2.true
+returns-then-ids-k c = sought_at c.if-k-ids.true c.if-ids-k.true
 
 pub returns : goal.returns
-returns c = sought_missing c.near-k.ensures (λ l. c.if-ids-k-2.false)
+returns c = sought_missing c.near-k.ensures (λ l. elim c.else-k-ids.branch [
+  | else-k-ids-via-then-k-ids+else-ids-k w ↦ w.if-ids-k.false
+  | else-k-ids-via-else-k-ids w ↦ absurd (omega arith)
+])

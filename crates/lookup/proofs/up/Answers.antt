@@ -1,5 +1,4 @@
 -- `lookup::up` meets its contract: the rank stays between lo and the end. Assumes nothing.
-use Prim.Native.Nat.{◌-◌}
 use native.Mathlib.Omega.{arith}
 use Rattle.lookup.proofs.Search.{held_up, held_down}
 use Rattle.lookup.proofs.up.Goals as goal
@@ -9,6 +8,3 @@ within-requires c = held_down c.loop-over.invariant _ (omega arith) (omega arith
 
 pub loop-over-preserved : goal.loop-over-preserved
 loop-over-preserved c = held_up c.loop-over.invariant _ (omega arith) c.if-id-ids.false
-
-pub within-requires-2 : goal.within-requires-2
-within-requires-2 c = c.loop-over.invariant

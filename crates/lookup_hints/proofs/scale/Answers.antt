@@ -1,10 +1,11 @@
 -- `lookup_hints::scale` meets its contract: its tests are the definition's. Assumes nothing.
 use native.Mathlib.Omega.{arith}
+use borrow.Author.Rules.{rules}
 use Rattle.lookup_hints.proofs.Scales.{bits_within, scale_none, scale_empty, scale_right, scale_left}
 use Rattle.lookup_hints.proofs.scale.Goals as goal
 
-pub returns-then-ids-eq0 : goal.returns-then-ids-eq0
-returns-then-ids-eq0 c = scale_empty _ _ c.if-ids-eq0.true
+pub returns-then-is_empty : goal.returns-then-is_empty
+returns-then-is_empty c = scale_empty _ _ (search rules)
 
 pub returns-then-last-first : goal.returns-then-last-first
 returns-then-last-first c = scale_none _ _ c.if-last-first.true

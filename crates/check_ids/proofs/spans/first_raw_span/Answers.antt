@@ -1,7 +1,7 @@
 -- `check_ids::spans::first_raw_span` meets its contract: no object before o has a body at fault. Assumes nothing.
 use mathlib.Core.Path.{sym, ◌∙◌}
-use Prim.Native.Nat.{◌-◌}
-use Rattle.columns.proofs.First.{searching_start, searching_more, searching_hit, searching_end}
+use Rattle.columns.proofs.First.{searching_start, searching_more, searching_hit}
+use Rattle.check_tables.proofs.Laws.{searching_over}
 use Rattle.check_ids.proofs.Parted.{raw-span_fault}
 use Rattle.check_ids.proofs.spans.first_raw_span.Goals as goal
 
@@ -19,4 +19,4 @@ loop-o-preserved c = let a = c.args in
     c.loop-o.o ∙ sym c.raw_fault.ensures ∙ c.if-raw_fault.false)
 
 pub returns : goal.returns
-returns c = searching_end _ _ c.loop-o.invariant c.loop-o-test.false
+returns c = searching_over c.loop-o.invariant c.loop-o-test.false

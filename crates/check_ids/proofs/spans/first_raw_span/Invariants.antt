@@ -1,5 +1,4 @@
 -- `check_ids::spans::first_raw_span` meets its contract: no object before o has a body at fault. Assumes nothing.
-use Prim.Native.Nat.{◌-◌}
 use lib.ListN.{length}
 use Rattle.columns.proofs.First.{Searching}
 use Rattle.rules.specs.Verdict.{bad_span}
@@ -8,6 +7,3 @@ use Rattle.check_ids.proofs.spans.first_raw_span.Given as goal
 
 abbrev pub invariant-loop-o : goal.invariant-loop-o
 invariant-loop-o l = Searching (bad_span (raw_spans l.kinds l.lengths l.bytes l.size l.starts l.bodies)) (length l.kinds) l.o
-
-abbrev pub decreases-loop-o : goal.decreases-loop-o
-decreases-loop-o l = length l.kinds - l.o

@@ -1,33 +1,22 @@
--- `check_input::count::count_copied` meets its contract: by what was answered before. Assumes nothing.
-use mathlib.Core.Path.{◌≡◌, sym, ap, ◌∙◌}
-use mathlib.Core.Bool.{true}
-use Rattle.columns.specs.Lists.{◌!◌}
+-- `check_input::count::count_copied` meets its contract: the tests before, then the places. Assumes nothing.
+use mathlib.Core.Path.{refl}
+use Rattle.std.proofs.lemmas.Result.{err_from_is_err_and}
 use Rattle.columns.specs.Columns.{accepts}
-use Rattle.rules.specs.declared.Checked.{Checked}
-use Rattle.rules.specs.Types.{checked_says}
-use Rattle.rules.proofs.Types.{refusal_refuses}
-use Rattle.check_input.proofs.Join.{counted_fit, not_counted}
+use Rattle.check_input.proofs.Sound.{sound, told-before, class_tables, code_tables, copied_counted}
+use Rattle.check_input.proofs.Join.{count_refused, count_fit}
 use Rattle.check_input.proofs.count.count_copied.Goals as goal
 
-pub fit_places-requires : goal.fit_places-requires
-unfolding accepts
-fit_places-requires c =
-    let given : c.args.tested ≡ Checked.Accepted c.in-Accepted.held =
-    c.in-Accepted.is in
-    let ok : accepts (checked_says c.args.tested) ≡ true =
-    ap (λ (b : Checked). accepts (checked_says b)) given in
-    let h = c.requires ok in record { held_value = sym (ap (λ (b : Checked). checked_says b ! 1) given) ∙ h.2; code_tables = h.0; class_tables = h.1 }
+pub returns-in_err-held : goal.returns-in_err-held
+returns-in_err-held c = let p = err_from_is_err_and c.from_residual.result c.from_residual.ensures.1 in
+    rw (p.1, p.2) (count_refused _ _ c.in_err-held.ensures.result_value)
 
-pub returns-in-Refused : goal.returns-in-Refused
-returns-in-Refused c = not_counted (checked_says c.args.tested) _ _ (ap checked_says c.in-Refused.is)
-    (ap (λ (b : Checked). accepts (checked_says b)) c.in-Refused.is ∙ refusal_refuses c.in-Refused.why)
-
-pub returns-in-Accepted : goal.returns-in-Accepted
+pub fit_places-places-requires : goal.fit_places-places-requires
 unfolding accepts
-returns-in-Accepted c =
-    let given : c.args.tested ≡ Checked.Accepted c.in-Accepted.held =
-    c.in-Accepted.is in
-    let ok : accepts (checked_says c.args.tested) ≡ true =
-    ap (λ (b : Checked). accepts (checked_says b)) given in
-    counted_fit c.args.room _ _ (checked_says c.args.tested) ok c.least_room.ensures c.fit_places.ensures
-    c.limited.ensures
+fit_places-places-requires c =
+    let h = sound _ _ c.in_ok-held.ensures.result_value refl in
+    record { held_value = told-before _ _ c.in_ok-held.ensures.result_value refl; code_tables = code_tables _ h _ refl; class_tables = class_tables _ h }
+
+pub returns : goal.returns
+unfolding accepts
+returns c =
+    count_fit _ _ c.in_ok-held.ensures.result_value _ (λ h. copied_counted _ h _ refl) c.least_room.ensures c.fit_places-places.ensures c.limited.ensures (c.in_ok-held.ensures.working_value refl)

@@ -1,27 +1,21 @@
--- `check_input::count::count_raw` meets its contract: by what was answered before. Assumes nothing.
-use mathlib.Core.Path.{◌≡◌, sym, ap, ◌∙◌}
-use mathlib.Core.Bool.{true}
+-- `check_input::count::count_raw` meets its contract: the tests before, then the places. Assumes nothing.
+use mathlib.Core.Path.{refl}
+use Rattle.std.proofs.lemmas.Result.{err_from_is_err_and}
 use Rattle.columns.specs.Columns.{accepts}
-use Rattle.rules.specs.declared.Checked.{Checked}
-use Rattle.rules.specs.Types.{checked_says}
-use Rattle.rules.proofs.Types.{refusal_refuses}
-use Rattle.check_input.proofs.Join.{counted_on, counted_not}
+use Rattle.check_input.proofs.Sound.{sound, class_tables, part_tables, raw-counted}
+use Rattle.check_input.proofs.Join.{count_refused, count_all}
 use Rattle.check_input.proofs.count.count_raw.Goals as goal
 
-pub raw_places-requires : goal.raw_places-requires
-unfolding accepts
-raw_places-requires c =
-    let ok : accepts (checked_says c.args.tested) ≡ true =
-    ap (λ (b : Checked). accepts (checked_says b)) c.in-Accepted.is in
-    record { part_tables = (c.requires ok).0; class_tables = (c.requires ok).1 }
+pub returns-in_err-judge_raw : goal.returns-in_err-judge_raw
+returns-in_err-judge_raw c = let p = err_from_is_err_and c.from_residual.result c.from_residual.ensures.1 in
+    rw (p.1, p.2) (count_refused _ _ c.in_err-judge_raw.ensures.result_value)
 
-pub returns-in-Refused : goal.returns-in-Refused
-returns-in-Refused c = sym (ap checked_says c.in-Refused.is) ∙ counted_not (checked_says c.args.tested) _ _
-    (ap (λ (b : Checked). accepts (checked_says b)) c.in-Refused.is ∙ refusal_refuses c.in-Refused.why)
-
-pub returns-in-Accepted : goal.returns-in-Accepted
+pub raw_places-places-requires : goal.raw_places-places-requires
 unfolding accepts
-returns-in-Accepted c =
-    let ok : accepts (checked_says c.args.tested) ≡ true =
-    ap (λ (b : Checked). accepts (checked_says b)) c.in-Accepted.is in
-    counted_on (checked_says c.args.tested) ok c.raw_places.ensures c.limited.ensures
+raw_places-places-requires c =
+    let h = sound _ _ c.in_ok-judge_raw.ensures.result_value refl in
+    record { part_tables = part_tables _ h; class_tables = class_tables _ h }
+
+pub returns : goal.returns
+unfolding accepts
+returns c = count_all _ _ c.in_ok-judge_raw.ensures.result_value (λ h. raw-counted _ h _ refl) (rw c.raw_places-places.ensures at c.limited.ensures) (c.in_ok-judge_raw.ensures.working_value refl)

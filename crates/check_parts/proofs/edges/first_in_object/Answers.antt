@@ -1,11 +1,12 @@
 -- `check_parts::edges::first_in_object` meets its contract: no label before k is at fault, and `next` is what is expected there. Assumes nothing.
-use mathlib.Core.Path.{refl, sym, ap, ◌∙◌}
-use Prim.Native.Nat.{ℕ, ◌-◌}
+use mathlib.Core.Path.{◌≡◌, refl, sym, ap, ◌∙◌}
+use Prim.Native.Nat.{ℕ}
 use Rattle.columns.specs.Lists.{◌!◌}
 use Rattle.columns.proofs.First.{searching_start, searching_more, searching_hit, searching_end}
 use Rattle.rules.specs.Labels.{after}
 use Rattle.check_parts.specs.Checks.{label_fault}
 use Rattle.check_parts.proofs.Faults.{label_at, expected_more}
+use lib.ListN.{length}
 use native.Mathlib.Omega.{arith}
 use Rattle.check_parts.proofs.edges.first_in_object.Goals as goal
 
@@ -24,4 +25,4 @@ loop-k-preserved c = let a = c.args in (
 )
 
 pub returns : goal.returns
-returns c = searching_end _ _ c.loop-k.invariant.0 (omega arith)
+returns c = let all : c.loop-k.k ≡ length c.args.labels.now = omega arith in sym all ∙ searching_end _ _ c.loop-k.invariant.0 (omega arith)

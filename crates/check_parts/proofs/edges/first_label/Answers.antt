@@ -1,16 +1,15 @@
 -- `check_parts::edges::first_label` meets its contract: the labels of the first o objects are without fault. Assumes nothing.
-use Prim.Native.Nat.{◌+◌, ◌≤◌, ◌-◌}
+use Prim.Native.Nat.{◌+◌, ◌≤◌}
 use native.Mathlib.Numerals.{add-one}
 use lib.ListN.{length}
 use Rattle.columns.specs.Lists.{◌!◌}
-use Rattle.labels.proofs.Codes.{laid_within}
+use Rattle.labels.proofs.Coded.{laid_within}
 use Rattle.check_parts.proofs.Faults.{labelled_none, labelled_more, labelled-hit, labelled_all}
 use native.Mathlib.Omega.{arith}
-use borrow.Author.Rules.{rules}
 use Rattle.check_parts.proofs.edges.first_label.Goals as goal
 
 pub loop-o-init : goal.loop-o-init
-loop-o-init c = (search rules, labelled_none _ _ _)
+loop-o-init c = labelled_none _ _ _
 
 pub offset_bounds-labels-from : goal.offset_bounds-labels-from
 offset_bounds-labels-from c =
@@ -49,14 +48,11 @@ overflow_add-result c =
     omega (arith, within)
 
 pub returns-then-k-to : goal.returns-then-k-to
-returns-then-k-to c = let a = c.args in labelled-hit a.names a.offsets.now a.labels.now c.requires c.loop-o.invariant.1 (omega arith) c.first_in_object-k.ensures c.if-k-to.true
+returns-then-k-to c = let a = c.args in labelled-hit a.names a.offsets.now a.labels.now c.requires c.loop-o.invariant (omega arith) c.first_in_object-k.ensures c.if-k-to.true
 
 pub loop-o-preserved : goal.loop-o-preserved
-loop-o-preserved c = let a = c.args in (
-  search rules,
-  labelled_more a.names a.offsets.now a.labels.now c.requires c.loop-o.invariant.1 (omega arith) c.first_in_object-k.ensures
-      c.if-k-to.false,
-)
+loop-o-preserved c = let a = c.args in labelled_more a.names a.offsets.now a.labels.now c.requires c.loop-o.invariant (omega arith) c.first_in_object-k.ensures
+    c.if-k-to.false
 
 pub returns : goal.returns
-returns c = let a = c.args in labelled_all a.names a.offsets.now a.labels.now c.loop-o.invariant.1 (omega arith)
+returns c = let a = c.args in labelled_all a.names a.offsets.now a.labels.now c.loop-o.invariant (omega arith)

@@ -1,11 +1,12 @@
 -- `check_parts::ends::first_pair` meets its contract: no pair before i is at fault, and (a0, b0) is the pair before it. Assumes nothing.
-use mathlib.Core.Path.{refl, sym, ap₂, ◌∙◌}
-use Prim.Native.Nat.{ℕ, ◌-◌}
+use mathlib.Core.Path.{◌≡◌, refl, sym, ap₂, ◌∙◌}
+use Prim.Native.Nat.{ℕ}
 use Rattle.columns.specs.Lists.{◌!◌}
 use Rattle.columns.proofs.First.{searching_start, searching_more, searching_hit, searching_end}
 use Rattle.check_tables.proofs.Faults.{prior_more}
 use Rattle.check_parts.specs.Checks.{pair_fault}
 use Rattle.check_parts.proofs.Faults.{pair-at}
+use lib.ListN.{length}
 use native.Mathlib.Omega.{arith}
 use Rattle.check_parts.proofs.ends.first_pair.Goals as goal
 
@@ -28,4 +29,4 @@ loop-i-preserved c = let a = c.args in (
 )
 
 pub returns : goal.returns
-returns c = searching_end _ _ c.loop-i.invariant.0 (omega arith)
+returns c = let all : c.loop-i.i ≡ length c.args.weak_from.now = omega arith in sym all ∙ searching_end _ _ c.loop-i.invariant.0 (omega arith)

@@ -4,7 +4,7 @@ use native.Mathlib.Omega.{arith}
 use Rattle.check_parts.proofs.offsets.first_offset.Goals as goal
 
 pub returns-then-offsets-eq0 : goal.returns-then-offsets-eq0
-returns-then-offsets-eq0 c = let a = c.args in offsets_none a.offsets.now a.edges c.if-offsets-eq0.true
+returns-then-offsets-eq0 c = let a = c.args in offsets_none a.offsets.now a.edges (omega arith)
 
 pub returns-then-offsets-gt0 : goal.returns-then-offsets-gt0
 returns-then-offsets-gt0 c = let a = c.args in offsets_start a.offsets.now a.edges (omega arith) (omega arith)

@@ -7,6 +7,3 @@ use Rattle.check_places.proofs.statics.count_statics.Given as goal
 
 abbrev pub invariant-loop-i : goal.invariant-loop-i
 invariant-loop-i l = (l.from ≤ l.i) × (l.i ≤ l.to) × (l.sum ≡ total (one_static l.every l.ids l.static_types l.static_values l.from) (l.i - l.from)) × (l.sum ≤ l.i - l.from)
-
-abbrev pub decreases-loop-i : goal.decreases-loop-i
-decreases-loop-i l = l.to - l.i

@@ -1,24 +1,17 @@
--- `check_tables::classes::statics_fault` meets its contract: none of the statics before i is at fault. Assumes nothing.
-use mathlib.Core.Path.{◌≡◌, sym, ap, ◌∙◌}
-use Prim.Native.Nat.{ℕ, ◌+◌, ◌-◌}
-use native.Mathlib.Omega.{arith}
+-- `check_tables::classes::statics_fault` meets its contract: `any` over the places of the statics. Assumes nothing.
+use mathlib.Core.Path.{refl, ◌∙◌}
+use Rattle.std.proofs.Common.{rules, tests, ℕ, ◌-◌, Bool}
+use Rattle.std.proofs.lemmas.Iterator.{YieldsList-from_range}
+use Rattle.std.proofs.lemmas.Iterator.Search.{any_from_yields_List}
 use Rattle.columns.specs.Lists.{◌!◌}
-use Rattle.columns.proofs.First.{passing_start, passing_more, passing_hit, passing_end}
 use Rattle.check_tables.specs.Reads.{static_fault}
+use Rattle.check_tables.proofs.Laws.{any_counted}
 use Rattle.check_tables.proofs.classes.statics_fault.Goals as goal
 
-pub loop-i-init : goal.loop-i-init
-loop-i-init c = passing_start _ _ _ (omega arith)
-
-pub returns-then-static_fault : goal.returns-then-static_fault
-returns-then-static_fault c = let a = c.args in
-    let e : a.from + (c.loop-i.i - a.from) ≡ c.loop-i.i = omega (arith, c.loop-i.invariant.low) in
-    passing_hit _ _ _ c.loop-i.invariant c.loop-i-test.true (ap (λ (p : ℕ). static_fault a.names (a.static_names.now ! p) (a.static_types.now ! p)) e ∙ sym c.static_fault.ensures ∙ c.if-static_fault.true)
-
-pub loop-i-preserved : goal.loop-i-preserved
-loop-i-preserved c = let a = c.args in
-    let e : a.from + (c.loop-i.i - a.from) ≡ c.loop-i.i = omega (arith, c.loop-i.invariant.low) in
-    passing_more _ _ _ c.loop-i.invariant c.loop-i-test.true (ap (λ (p : ℕ). static_fault a.names (a.static_names.now ! p) (a.static_types.now ! p)) e ∙ sym c.static_fault.ensures ∙ c.if-static_fault.false)
-
 pub returns : goal.returns
-returns c = passing_end _ _ _ c.loop-i.invariant c.loop-i-test.false
+returns c =
+    let a = c.args in
+    let bad : ℕ → Bool = λ i. static_fault a.names (a.static_names.now ! i) (a.static_types.now ! i) in
+    let n = a.to - a.from in
+    any_from_yields_List bad _ _ _ c.any.ensures.ran (YieldsList-from_range a.from a.to n refl refl) (λ x b q k. search (rules, tests))
+    ∙ any_counted bad _ a.from n (λ k. refl)

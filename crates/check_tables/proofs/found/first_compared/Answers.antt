@@ -1,7 +1,8 @@
 -- `check_tables::found::first_compared` meets its contract: no class before this one is found at fault. Assumes nothing.
 use mathlib.Core.Path.{◌≡◌, sym, ap, ◌∙◌}
-use Prim.Native.Nat.{ℕ, ◌-◌}
-use Rattle.columns.proofs.First.{searching_start, searching_more, searching_hit, searching_end}
+use Prim.Native.Nat.{ℕ}
+use Rattle.columns.proofs.First.{searching_start, searching_more, searching_hit}
+use Rattle.check_tables.proofs.Laws.{searching_over}
 use Rattle.rules.specs.Verdict.{bad_find}
 use Rattle.check_tables.specs.Found.{find_columns, find_fault}
 use Rattle.check_tables.proofs.Marks.{find_fault_lem}
@@ -27,4 +28,4 @@ loop-class-preserved c =
     searching_more _ _ c.loop-class.invariant c.loop-class-test.true (bad ∙ c.if-find_fault.false)
 
 pub returns : goal.returns
-returns c = searching_end _ _ c.loop-class.invariant c.loop-class-test.false
+returns c = searching_over c.loop-class.invariant c.loop-class-test.false

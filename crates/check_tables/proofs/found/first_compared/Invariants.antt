@@ -1,5 +1,4 @@
 -- `check_tables::found::first_compared` meets its contract: no class before this one is found at fault. Assumes nothing.
-use Prim.Native.Nat.{◌-◌}
 use lib.ListN.{length}
 use Rattle.columns.proofs.First.{Searching}
 use Rattle.rules.specs.Verdict.{bad_find}
@@ -8,6 +7,3 @@ use Rattle.check_tables.proofs.found.first_compared.Given as goal
 
 abbrev pub invariant-loop-class : goal.invariant-loop-class
 invariant-loop-class l = Searching (bad_find (find_columns l.ids l.kinds l.class_ids l.dumped)) (length l.class_ids) l.class
-
-abbrev pub decreases-loop-class : goal.decreases-loop-class
-decreases-loop-class l = length l.class_ids - l.class

@@ -1,9 +1,9 @@
 -- `check_tables::found::first_marked` meets its contract: no class before this one is found at fault, and those are marked. Assumes nothing.
-use mathlib.Core.Path.{◌∙◌}
-use Prim.Native.Nat.{◌-◌}
+use mathlib.Core.Path.{◌≡◌, ◌∙◌}
 use native.Mathlib.Omega.{arith}
 use lib.ListN.{length}
-use Rattle.columns.proofs.First.{searching_start, searching_more, searching_hit, searching_end}
+use Rattle.columns.proofs.First.{searching_start, searching_more, searching_hit}
+use Rattle.check_tables.proofs.Laws.{searching_over}
 use Rattle.check_tables.specs.Found.{find_columns}
 use Rattle.check_tables.proofs.Marks.{marked_start, marked_next, marked_last, marked_end, tells}
 use Rattle.check_tables.proofs.found.first_marked.Goals as goal
@@ -31,4 +31,5 @@ loop-class-preserved c = let a = c.args in (
 )
 
 pub returns : goal.returns
-returns c = record { value = searching_end _ _ c.loop-class.invariant.0 c.loop-class-test.false; working_after = marked_end _ _ c.loop-class.invariant.1 }
+returns c = let e : c.loop-class.class ≡ length c.args.class_ids.now = omega (arith, c.loop-class.invariant.0.within) in
+    record { value = searching_over c.loop-class.invariant.0 c.loop-class-test.false; working_after = rw (← e) (marked_end _ _ c.loop-class.invariant.1) }

@@ -1,5 +1,4 @@
 -- `check_tables::found::first_marked` meets its contract: no class before this one is found at fault, and those are marked. Assumes nothing.
-use Prim.Native.Nat.{◌-◌}
 use lib.ListN.{length}
 use Rattle.columns.proofs.First.{Searching}
 use Rattle.rules.specs.Verdict.{bad_find}
@@ -9,6 +8,3 @@ use Rattle.check_tables.proofs.found.first_marked.Given as goal
 
 abbrev pub invariant-loop-class : goal.invariant-loop-class
 invariant-loop-class l = Searching (bad_find (find_columns l.ids l.kinds l.class_ids l.dumped)) (length l.class_ids) l.class × Marked (find_columns l.ids l.kinds l.class_ids l.dumped) l.class (length l.initial.working) l.working
-
-abbrev pub decreases-loop-class : goal.decreases-loop-class
-decreases-loop-class l = length l.class_ids - l.class

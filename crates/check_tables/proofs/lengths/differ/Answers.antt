@@ -1,12 +1,13 @@
--- `check_tables::lengths::differ` meets its contract: by the test. Assumes nothing.
-use borrow.Author.Tests.{eq-eqb, ne_eqb}
-use Rattle.columns.specs.Lists.{any_of}
+-- `check_tables::lengths::differ` meets its contract: `any` over the lengths. Assumes nothing.
+use mathlib.Core.Path.{◌∙◌}
+use mathlib.Core.Bool.{not}
+use Rattle.std.proofs.Common.{rules, tests, eqb}
+use Rattle.std.proofs.lemmas.Iterator.{YieldsList-from_slice}
+use Rattle.std.proofs.lemmas.Iterator.Search.{any_from_yields_List}
+use Rattle.check_tables.proofs.Laws.{any_mapped}
 use Rattle.check_tables.proofs.lengths.differ.Goals as goal
 
-pub returns-then-a-n : goal.returns-then-a-n
-unfolding any_of
-returns-then-a-n c = rw (eq-eqb _ _ c.if-a-n.true)
-
 pub returns : goal.returns
-unfolding any_of
-returns c = rw (ne_eqb _ _ c.if-a-n.false)
+returns c =
+    any_from_yields_List (λ a. not (eqb a c.args.n)) _ _ _ c.any.ensures.ran (YieldsList-from_slice c.args.lengths.now cc) (λ x b q k. search (rules, tests))
+    ∙ any_mapped _ c.args.lengths.now

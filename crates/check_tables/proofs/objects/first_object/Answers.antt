@@ -1,9 +1,9 @@
 -- `check_tables::objects::first_object` meets its contract: no object before o is at fault, and `before` is the id before it. Assumes nothing.
 use mathlib.Core.Path.{refl, sym, ap, ◌∙◌}
-use Prim.Native.Nat.{◌-◌}
 use lib.ListN.{length}
 use Rattle.columns.specs.Lists.{◌!◌}
-use Rattle.columns.proofs.First.{searching_start, searching_more, searching_hit, searching_end}
+use Rattle.columns.proofs.First.{searching_start, searching_more, searching_hit}
+use Rattle.check_tables.proofs.Laws.{searching_over}
 use Rattle.check_tables.specs.Reads.{object_fault}
 use Rattle.check_tables.proofs.Faults.{prior_more, object_fault_lem}
 use Rattle.check_tables.proofs.objects.first_object.Goals as goal
@@ -30,4 +30,4 @@ loop-o-preserved c = let a = c.args in (
 )
 
 pub returns : goal.returns
-returns c = searching_end _ _ c.loop-o.invariant.0 c.loop-o-test.false
+returns c = searching_over c.loop-o.invariant.0 c.loop-o-test.false

@@ -8,24 +8,26 @@ use lib.Dec.{ltb}
 use lib.ListN.{length, set}
 use Rattle.columns.specs.Lists.{any_of}
 use Rattle.columns.specs.Columns.{accepts}
-use Rattle.rules.specs.declared.Built.{Built}
+use Rattle.std.specs.Prelude.{Result}
+use Rattle.rules.specs.declared.Counts.{Counts}
+use Rattle.rules.specs.declared.Refusal.{Refusal}
 use Rattle.rules.specs.Types.{built_says}
 use Rattle.labels.specs.Coding.{escapes_in}
 use Rattle.code_stages.specs.Stages.{codes_all, label_room}
-use Rattle.code_stages.proofs.Laws.{accepts-done, accepts_refused, label_refuses, label-codes-short, label_escapes_short, codes-handed, codes-short, codes-rows, codes-coded, short_none}
+use Rattle.code_stages.proofs.Laws.{accepts-done, handed, label_refuses, label-codes-short, label_escapes_short, codes-handed, codes-short, codes-rows, codes-coded, short_none}
 use Rattle.code_stages.proofs.codes.codes_stage.Goals as goal
 
 seven : accepts (9 ∷ 7 ∷ []) ≡ false
 unfolding accepts
 seven = refl
 
-pub returns-in_default : goal.returns-in_default
-returns-in_default c = let a = c.args in
-    codes-handed (built_says a.v) a.names a.table.now a.offsets.now a.labels.now a.edge_codes.now a.escape_at.now
-    a.escape_label.now (accepts_refused c.in_default.is)
+pub returns-in_err-c : goal.returns-in_err-c
+returns-in_err-c c = let a = c.args in
+    let p = handed c.in_err-c.was c.from_residual.ensures.1 in
+    rw p.0 (codes-handed (built_says a.v) a.names a.table.now a.offsets.now a.labels.now a.edge_codes.now a.escape_at.now a.escape_label.now p.1)
 
 pub count_escapes-rows-requires : goal.count_escapes-rows-requires
-count_escapes-rows-requires c = let p = c.requires (accepts-done c.in-Done.is) in
+count_escapes-rows-requires c = let p = c.requires (accepts-done c.in_ok-c.was) in
     (p.room, p.laid)
 
 pub returns-then-edge_codes-edges : goal.returns-then-edge_codes-edges
@@ -33,7 +35,7 @@ returns-then-edge_codes-edges c =
     let rows : ℕ =
     escapes_in (codes_all c.args.names c.args.table.now c.args.offsets.now c.args.labels.now) in
     let a = c.args in
-    let y = accepts-done c.in-Done.is in
+    let y = accepts-done c.in_ok-c.was in
     let n = rows in
     let e = length a.labels.now in
     let m₁ = length a.escape_at.now in
@@ -46,18 +48,15 @@ returns-then-edge_codes-edges c =
     (label-codes-short n e m₁ m₂ m₃ few (9 ∷ 8 ∷ []) (set (built_says a.v) 6 n))
 
 pub code_objects-requires : goal.code_objects-requires
-code_objects-requires c = let p = c.requires (accepts-done c.in-Done.is) in
+code_objects-requires c = let p = c.requires (accepts-done c.in_ok-c.was) in
     (p.room, p.laid, omega arith)
-
-pub count_escaped-rows-requires : goal.count_escaped-rows-requires
-count_escaped-rows-requires c = omega (arith, c.if-edge_codes-edges.false)
 
 pub returns-then-is_short : goal.returns-then-is_short
 returns-then-is_short c =
     let rows : ℕ =
     escapes_in (codes_all c.args.names c.args.table.now c.args.offsets.now c.args.labels.now) in
     let a = c.args in
-    let y = accepts-done c.in-Done.is in
+    let y = accepts-done c.in_ok-c.was in
     let p = c.requires y in
     let n = rows in
     let e = length a.labels.now in
@@ -69,7 +68,7 @@ returns-then-is_short c =
     let t : any_of (ltb m₁ n ∷ ltb m₂ n ∷ []) ≡ true = ap (λ (k : ℕ). any_of (ltb m₁ k ∷ ltb m₂ k ∷ [])) (sym is)
     ∙ sym c.is_short.ensures ∙ c.if-is_short.true in
     codes-short (built_says a.v) a.names a.table.now a.offsets.now a.labels.now a.edge_codes.now a.escape_at.now a.escape_label.now
-    y (9 ∷ 7 ∷ []) seven c.room.ensures (sym (label_escapes_short n e m₁ m₂ m₃ t (set (built_says a.v) 6 n)))
+    y (9 ∷ 7 ∷ []) seven refl (sym (label_escapes_short n e m₁ m₂ m₃ t (set (built_says a.v) 6 n)))
 
 pub write_escapes-requires : goal.write_escapes-requires
 write_escapes-requires c = let a = c.args in
@@ -81,7 +80,7 @@ returns c =
     let rows : ℕ =
     escapes_in (codes_all c.args.names c.args.table.now c.args.offsets.now c.args.labels.now) in
     let a = c.args in
-    let y = accepts-done c.in-Done.is in
+    let y = accepts-done c.in_ok-c.was in
     let p = c.requires y in
     let n = rows in
     let e = length a.labels.now in
@@ -94,4 +93,4 @@ returns c =
     ∙ sym c.is_short.ensures ∙ c.if-is_short.false in
     codes-coded (built_says a.v) a.names a.table.now a.offsets.now a.labels.now a.edge_codes.now a.escape_at.now a.escape_label.now
     y p.laid (omega (arith, p.room.few)) c.code_objects.ensures (omega (arith, c.if-edge_codes-edges.false)) t c.write_escapes.ensures
-    (c.with_escapes.ensures ∙ ap (λ (b : Built). set (built_says b) 6 c.count_escaped-rows.result) (sym c.in-Done.is) ∙ ap (set (built_says a.v) 6) is)
+    (ap (λ (b : Result Counts Refusal). set (built_says b) 6 c.count_escaped-rows.result) (sym c.in_ok-c.was) ∙ ap (set (built_says a.v) 6) is)

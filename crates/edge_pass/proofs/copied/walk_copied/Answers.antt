@@ -1,27 +1,14 @@
 -- `edge_pass::copied::walk_copied` meets its contract: the first k objects of the range are passed, and the marks of the others still stand. Assumes nothing.
-use Prim.Native.Nat.{◌-◌}
 use native.Mathlib.Omega.{arith}
-use Rattle.rules.specs.Input.{Input}
 use Rattle.edge_append.specs.Object.{copied_parts_of}
-use Rattle.rules.specs.Tables.{object_table, static_table, copied_route}
-use Rattle.edge_pass.specs.Tables.{pass_classes, pass_slots, pass_input}
-use Rattle.edge_pass.specs.Range.{ref_parts_of, parts_from}
+use Rattle.edge_pass.specs.Range.{ref_parts_of}
 use Rattle.edge_pass.proofs.Walks.{walk_none}
 use Rattle.edge_pass.proofs.Steps.{walk_end, object_now, ready_now, step_more}
 use Rattle.edge_pass.proofs.copied.walk_copied.Goals as goal
 
 pub loop-k-init : goal.loop-k-init
 loop-k-init c =
-    let X : Input =
-    let a = c.args in
-    pass_input
-    (object_table (λ x. x.now) a.ids a.kinds a.classes a.lengths)
-    (pass_classes (λ x. x.now) a.loaders a.class_kinds a.slot_starts a.slot_ends a.static_starts a.static_ends)
-    (pass_slots (λ x. x.now) a.slot_labels a.slot_weak)
-    (static_table (λ x. x.now) a.static_names a.static_types a.static_values)
-    (copied_route (λ x. x.now) a.codes a.escape_places a.escape_ids a.base a.starts)
-    a.policy in
-    (omega arith, (walk_none (parts_from X c.args.working.now c.args.first), c.requires.account_in))
+    (walk_none _, c.requires.account_in)
 
 pub overflow_add-first : goal.overflow_add-first
 overflow_add-first c = omega (arith, (c.requires.fact.objects c.loop-k.k c.loop-k-test.true).few)
@@ -32,22 +19,10 @@ offset_bounds-starts-first c = omega (arith, (c.requires.fact.objects c.loop-k.k
 pub bounds-starts-first : goal.bounds-starts-first
 bounds-starts-first c = omega (arith, (c.requires.fact.objects c.loop-k.k c.loop-k-test.true).part.start)
 
-pub overflow_add-first-in-loop-k : goal.overflow_add-first-in-loop-k
-overflow_add-first-in-loop-k c = omega (arith, (c.requires.fact.objects c.loop-k.k c.loop-k-test.true).few)
-
 pub step_copied-s-requires : goal.step_copied-s-requires
 unfolding ref_parts_of copied_parts_of
 step_copied-s-requires c =
-    let X : Input =
-    let a = c.args in
-    pass_input
-    (object_table (λ x. x.now) a.ids a.kinds a.classes a.lengths)
-    (pass_classes (λ x. x.now) a.loaders a.class_kinds a.slot_starts a.slot_ends a.static_starts a.static_ends)
-    (pass_slots (λ x. x.now) a.slot_labels a.slot_weak)
-    (static_table (λ x. x.now) a.static_names a.static_types a.static_values)
-    (copied_route (λ x. x.now) a.codes a.escape_places a.escape_ids a.base a.starts)
-    a.policy in
-    let o = object_now X c.loop-k.invariant.1.0 (c.requires.fact.objects c.loop-k.k c.loop-k-test.true) in
+    let o = object_now _ c.loop-k.invariant.0 (c.requires.fact.objects c.loop-k.k c.loop-k-test.true) in
     record {
       rises = c.requires.rises;
       o_bound = o.few;
@@ -56,28 +31,13 @@ step_copied-s-requires c =
       o_bound_2 = o.part.elements;
       statics_in = o.statics;
       o_in_bounds_2 = o.loader;
-      fact = ready_now X c.loop-k.invariant.1.0 c.requires.fact.room c.loop-k-test.true c.loop-k.invariant.1.1;
+      fact = ready_now _ c.loop-k.invariant.0 c.requires.fact.room c.loop-k-test.true c.loop-k.invariant.1;
     }
-
-pub overflow_add-k : goal.overflow_add-k
-overflow_add-k c = omega (arith, c.loop-k-test.true, c.ranges.count.fits)
-
-pub loop-k-smaller : goal.loop-k-smaller
-loop-k-smaller c = omega (arith, c.loop-k-test.true)
 
 pub loop-k-preserved : goal.loop-k-preserved
 unfolding ref_parts_of copied_parts_of
 loop-k-preserved c =
-    let X : Input =
-    let a = c.args in
-    pass_input
-    (object_table (λ x. x.now) a.ids a.kinds a.classes a.lengths)
-    (pass_classes (λ x. x.now) a.loaders a.class_kinds a.slot_starts a.slot_ends a.static_starts a.static_ends)
-    (pass_slots (λ x. x.now) a.slot_labels a.slot_weak)
-    (static_table (λ x. x.now) a.static_names a.static_types a.static_values)
-    (copied_route (λ x. x.now) a.codes a.escape_places a.escape_ids a.base a.starts)
-    a.policy in
-    (omega (arith, c.loop-k-test.true), step_more X c.loop-k.invariant.1.0 c.step_copied-s.ensures.fact_2 c.step_copied-s.ensures.working_value c.loop-k.invariant.1.1)
+    step_more _ c.loop-k.invariant.0 c.step_copied-s.ensures.fact_2 c.step_copied-s.ensures.working_value c.loop-k.invariant.1
 
 pub returns : goal.returns
-returns c = walk_end (omega (arith, c.loop-k.invariant.0, c.loop-k-test.false)) c.loop-k.invariant.1.0
+returns c = walk_end (omega arith) c.loop-k.invariant.0

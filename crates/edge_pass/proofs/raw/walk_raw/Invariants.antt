@@ -1,5 +1,5 @@
 -- `edge_pass::raw::walk_raw` meets its contract: the first k objects of the range are passed, and the marks of the others still stand. Assumes nothing.
-use Prim.Native.Nat.{ℕ, ◌≤◌, ◌-◌}
+use Prim.Native.Nat.{ℕ}
 use mathlib.Core.List.{List}
 use Rattle.edge_append.specs.Account.{AccountIn}
 use Rattle.rules.specs.Tables.{object_table, slot_table, static_table, raw_route}
@@ -18,9 +18,5 @@ invariant-loop-k l =
     (static_table (λ (l : List ℕ). l) l.static_names l.static_types l.static_values)
     (raw_route (λ (l : List ℕ). l) l.bytes l.size l.starts l.bodies)
     l.policy in
-    (l.k ≤ l.count)
-    × (Walked l.ids (parts_from x l.initial.working l.first) l.first l.k l.initial.s l.s l.initial.targets l.initial.labels l.initial.weak_from l.initial.weak_to l.initial.working l.initial.account l.targets l.labels l.weak_from l.weak_to l.working l.account
-    × AccountIn l.account l.s)
-
-abbrev pub decreases-loop-k : goal.decreases-loop-k
-decreases-loop-k l = l.count - l.k
+    Walked l.ids (parts_from x l.initial.working l.first) l.first l.k l.initial.s l.s l.initial.targets l.initial.labels l.initial.weak_from l.initial.weak_to l.initial.working l.initial.account l.targets l.labels l.weak_from l.weak_to l.working l.account
+    × AccountIn l.account l.s

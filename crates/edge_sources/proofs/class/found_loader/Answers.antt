@@ -1,5 +1,4 @@
 -- `edge_sources::class::found_loader` meets its contract: by the mark. Assumes nothing.
-use native.Mathlib.Omega.{arith}
 use Rattle.edge_append.proofs.Reading.{loader_none, loader_some}
 use Rattle.edge_append.proofs.Appending.{appended_none}
 use Rattle.edge_sources.proofs.class.found_loader.Goals as goal
@@ -7,12 +6,6 @@ use Rattle.edge_sources.proofs.class.found_loader.Goals as goal
 pub returns-then-mark-eq0 : goal.returns-then-mark-eq0
 returns-then-mark-eq0 c = let a = c.args in
     rw (← loader_none a.loaders.now a.mark c.if-mark-eq0.true) appended_none
-
-pub offset_bounds-loaders-mark : goal.offset_bounds-loaders-mark
-offset_bounds-loaders-mark c = omega (arith, c.requires.mark_in_bounds (omega arith))
-
-pub bounds-loaders-mark : goal.bounds-loaders-mark
-bounds-loaders-mark c = omega (arith, c.requires.mark_in_bounds (omega arith))
 
 pub append-requires : goal.append-requires
 append-requires c = rw (loader_some c.args.loaders.now c.args.mark c.if-mark-eq0.false c.loader-label.ensures) c.requires.edge_room

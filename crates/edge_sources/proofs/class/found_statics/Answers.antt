@@ -9,21 +9,6 @@ pub returns-then-mark-eq0 : goal.returns-then-mark-eq0
 returns-then-mark-eq0 c = let a = c.args in
     rw (← statics_none a.static_starts.now a.static_ends.now a.static_names.now a.static_types.now a.static_values.now a.mark c.if-mark-eq0.true) appended_none
 
-pub offset_bounds-static_starts-mark : goal.offset_bounds-static_starts-mark
-offset_bounds-static_starts-mark c = omega (arith, c.requires.statics_in.start_in (omega arith))
-
-pub bounds-static_starts-mark : goal.bounds-static_starts-mark
-bounds-static_starts-mark c = omega (arith, c.requires.statics_in.start_in (omega arith))
-
-pub offset_bounds-static_ends-mark : goal.offset_bounds-static_ends-mark
-offset_bounds-static_ends-mark c = omega (arith, c.requires.statics_in.end_in (omega arith))
-
-pub bounds-static_ends-mark : goal.bounds-static_ends-mark
-bounds-static_ends-mark c = omega (arith, c.requires.statics_in.end_in (omega arith))
-
-pub overflow_sub-count : goal.overflow_sub-count
-overflow_sub-count c = omega (arith, c.index-first.ensures, c.index.ensures, c.requires.statics_in.ordered (omega arith))
-
 pub statics-requires : goal.statics-requires
 statics-requires c = let a = c.args in
     let f = c.requires.statics_in in

@@ -1,12 +1,8 @@
 -- `edge_sources::class::statics` meets its contract: the references of the first k statics are appended. Assumes nothing.
-use Prim.Native.Nat.{◌≤◌, ◌-◌}
 use Rattle.columns.specs.Lists.{collect}
 use Rattle.edge_append.specs.Append.{Appended}
 use Rattle.edge_append.specs.Held.{static_from}
 use Rattle.edge_sources.proofs.class.statics.Given as goal
 
 abbrev pub invariant-loop-k : goal.invariant-loop-k
-invariant-loop-k l = (l.k ≤ l.count) × Appended l.ids (collect (static_from l.static_names l.static_types l.static_values l.first) l.k) l.initial.s l.s l.initial.targets l.initial.labels l.initial.weak_to l.targets l.labels l.weak_to
-
-abbrev pub decreases-loop-k : goal.decreases-loop-k
-decreases-loop-k l = l.count - l.k
+invariant-loop-k l = Appended l.ids (collect (static_from l.static_names l.static_types l.static_values l.first) l.k) l.initial.s l.s l.initial.targets l.initial.labels l.initial.weak_to l.targets l.labels l.weak_to

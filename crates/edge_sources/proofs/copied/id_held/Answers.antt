@@ -1,16 +1,20 @@
 -- `edge_sources::copied::id_held` meets its contract: by the answer of the reader. Assumes nothing.
-use Rattle.rules.specs.Input.{copied_id}
+use Prim.Native.Nat.{ℕ}
+use mathlib.Core.Path.{◌≡◌, ◌∙◌}
+use Rattle.std.specs.Prelude.{Result, Ok, Err}
+use Rattle.std.specs.Result.{result_unwrap_or}
 use Rattle.columns.specs.Columns.{accepts}
+use Rattle.index.specs.Copied.{Ids, id_back, id_says}
+use Rattle.index_read.specs.declared.IdError.{IdError}
+use Rattle.index_read.specs.declared.IdError.TheVariants.{Index, Copied}
+use Rattle.rules.specs.Input.{copied_id}
 use Rattle.edge_sources.proofs.copied.id_held.Goals as goal
 
-pub returns-in-Id : goal.returns-in-Id
+id_or_none : (r : Result ℕ IdError) (d : Ids) (i : ℕ) → id_says r ≡ id_back d i → result_unwrap_or r 0 ≡ copied_id d i
 unfolding copied_id accepts
-returns-in-Id c = rw (← c.id_at.ensures, c.in-Id.is)
+id_or_none (Ok id) d i e = rw (← e)
+id_or_none (Err (Index k)) d i e = rw (← e)
+id_or_none (Err (Copied k)) d i e = rw (← e)
 
-pub returns-in-Index : goal.returns-in-Index
-unfolding copied_id accepts
-returns-in-Index c = rw (← c.id_at.ensures, c.in-Index.is)
-
-pub returns-in-Copied : goal.returns-in-Copied
-unfolding copied_id accepts
-returns-in-Copied c = rw (← c.id_at.ensures, c.in-Copied.is)
+pub returns : goal.returns
+returns c = c.unwrap_or.ensures ∙ id_or_none c.id_at.result _ _ c.id_at.ensures

@@ -35,6 +35,3 @@ module _ (codes ps vs : List ℕ) (b i : ℕ) (e : all_of (ltb i (length codes) 
 pub returns-then-is_escaped : goal.returns-then-is_escaped
 returns-then-is_escaped c = let a = c.args in
     from_row a.codes.now a.escape_places.now a.escape_ids.now a.base a.place (sym c.is_escaped.ensures ∙ c.if-is_escaped.true) c.requires c.near-near.ensures c.at_row-id.ensures
-
-pub returns : goal.returns
-returns c = c.id_held-id.ensures

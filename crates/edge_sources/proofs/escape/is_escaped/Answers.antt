@@ -1,16 +1,19 @@
 -- `edge_sources::escape::is_escaped` meets its contract: test by test. Assumes nothing.
-use borrow.Author.Tests.{lt-ltb, le-ltb, eq-eqb, ne_eqb}
+use mathlib.Core.Path.{◌≡◌, refl}
+use mathlib.Core.Bool.{Bool, true, false}
+use mathlib.Core.List.{[], ◌∷◌}
+use borrow.Author.Tests.{lt-ltb, le-ltb}
 use Rattle.columns.specs.Lists.{all_of}
 use Rattle.edge_sources.proofs.escape.is_escaped.Goals as goal
 
-pub returns-then-codes-place : goal.returns-then-codes-place
+alone : (b : Bool) → b ≡ all_of (true ∷ b ∷ [])
 unfolding all_of
-returns-then-codes-place c = simp (le-ltb _ _ c.if-codes-place.true)
+alone true = refl
+alone false = refl
 
-pub returns-then-codes-place-2 : goal.returns-then-codes-place-2
-unfolding all_of
-returns-then-codes-place-2 c = simp (lt-ltb _ _ c.if-codes-place.false, eq-eqb _ _ c.if-codes-place-2.true)
+pub returns-then-place-codes : goal.returns-then-place-codes
+returns-then-place-codes c = rw (lt-ltb _ _ c.if-place-codes.true) (alone _)
 
-pub returns : goal.returns
+pub returns-else-place-codes : goal.returns-else-place-codes
 unfolding all_of
-returns c = simp (lt-ltb _ _ c.if-codes-place.false, ne_eqb _ _ c.if-codes-place-2.false)
+returns-else-place-codes c = simp (le-ltb _ _ c.if-place-codes.false)

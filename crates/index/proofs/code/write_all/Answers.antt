@@ -14,8 +14,8 @@ returns c = let a = c.args in
     let e = c.requires.rows_value in
     let ok = c.requires.ids_accepted in
     record {
-      codes = written_padded _ a.codes.now _ c.write.ensures.codes c.zero_u32.ensures (tab-length _ _) ok.room_codes;
-      places = written_padded _ a.escape_places.now _ c.write.ensures.places c.zero_u64.ensures (sym e) (omega (arith, ok.room_places));
-      escaped = written_padded _ a.escape_ids.now _ c.write.ensures.escaped c.zero_u64-2.ensures
+      codes = written_padded _ a.codes.now _ c.write.ensures.codes c.zero.ensures (tab-length _ _) ok.room_codes;
+      places = written_padded _ a.escape_places.now _ c.write.ensures.places c.zero-2.ensures (sym e) (omega (arith, ok.room_places));
+      escaped = written_padded _ a.escape_ids.now _ c.write.ensures.escaped c.zero-3.ensures
           (length-map (escapes_to a.base a.ids.now _) (λ i. a.ids.now ! i) ∙ sym e) (omega (arith, ok.room_ids));
     }

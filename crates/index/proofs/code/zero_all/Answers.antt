@@ -5,7 +5,7 @@ use Rattle.index.proofs.code.zero_all.Goals as goal
 
 pub returns : goal.returns
 returns c = record {
-  codes = c.zero_u32.ensures ∙ cleared_all _;
-  places = c.zero_u64.ensures ∙ cleared_all _;
-  escaped = c.zero_u64-2.ensures ∙ cleared_all _;
+  codes = c.zero.ensures ∙ cleared_all _;
+  places = c.zero-2.ensures ∙ cleared_all _;
+  escaped = c.zero-3.ensures ∙ cleared_all _;
 }

@@ -1,11 +1,7 @@
 -- `label_fields::fields::mark_slots` meets its contract: the labels from `from` up to i are marked. Assumes nothing.
-use Prim.Native.Nat.{◌≤◌, ◌-◌}
 use Rattle.labels.specs.Fields.{slots_named}
 use Rattle.label_fields.proofs.Marks.{Marking}
 use Rattle.label_fields.proofs.fields.mark_slots.Given as goal
 
-abbrev pub invariant-loop-i : goal.invariant-loop-i
-invariant-loop-i l = (l.from ≤ l.i) × (l.i ≤ l.to) × Marking l.names l.initial.table (slots_named l.slot_labels l.from (l.i - l.from)) l.table
-
-abbrev pub decreases-loop-i : goal.decreases-loop-i
-decreases-loop-i l = l.to - l.i
+abbrev pub invariant-loop-label : goal.invariant-loop-label
+invariant-loop-label l = Marking l.names l.initial.table (slots_named l.slot_labels l.from l.label-index) l.table

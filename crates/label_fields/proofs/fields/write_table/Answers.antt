@@ -2,35 +2,21 @@
 use mathlib.Core.Path.{◌≡◌}
 use Prim.Native.Nat.{suc, ◌-◌}
 use native.Mathlib.Omega.{arith}
-use Rattle.columns.specs.Lists.{◌!◌}
-use Rattle.labels.proofs.Table.{slot_within}
 use Rattle.label_fields.proofs.Tabling.{tabling_none, tabling_field, tabling_end}
-use borrow.Author.Rules.{rules}
 use Rattle.label_fields.proofs.fields.write_table.Goals as goal
 
 pub loop-k-init : goal.loop-k-init
 loop-k-init c = let a = c.args in
-    (search rules, tabling_none a.names a.fields.now _ (omega arith) a.table.now c.clear_table.ensures)
-
-pub offset_bounds-table-slot_of : goal.offset_bounds-table-slot_of
-offset_bounds-table-slot_of c = let a = c.args in
-    omega (arith, slot_within a.names (a.fields.now ! (c.loop-k.k - 1)), c.loop-k.invariant.1.same)
-
-pub bounds-table-slot_of : goal.bounds-table-slot_of
-bounds-table-slot_of c = let a = c.args in
-    omega (arith, slot_within a.names (a.fields.now ! (c.loop-k.k - 1)), c.loop-k.invariant.1.same)
+    tabling_none a.names a.fields.now _ (omega arith) a.table.now c.clear_table.ensures
 
 pub loop-k-preserved : goal.loop-k-preserved
 loop-k-preserved c = let a = c.args in
     let k = c.loop-k.k in
     let e : k ≡ suc (k - 1) = omega arith in
-    let w = rw e at c.loop-k.invariant.1 in (
-      search rules,
-      rw c.slot_of.ensures (tabling_field a.names a.fields.now _ (omega arith) _ (k - 1) c.requires.room.0.few (omega arith) (c.requires.named (k - 1) (omega arith))
-          w),
-    )
+    let w = rw e at c.loop-k.invariant in
+    rw c.slot_of.ensures (tabling_field a.names a.fields.now _ (omega arith) _ (k - 1) c.requires.room.0.few (omega arith) (c.requires.named (k - 1) (omega arith)) w)
 
 pub returns : goal.returns
 returns c = let a = c.args in
     let e : c.loop-k.k ≡ 0 = omega arith in
-    tabling_end a.names a.fields.now _ (omega arith) a.table.now _ c.clear_table.ensures (rw e at c.loop-k.invariant.1)
+    tabling_end a.names a.fields.now _ (omega arith) a.table.now _ c.clear_table.ensures (rw e at c.loop-k.invariant)

@@ -1,11 +1,6 @@
 -- `label_fields::fields::write_table` meets its contract: the fields from place k on have their codes. Assumes nothing.
-use Prim.Native.Nat.{◌≤◌, ◌-◌}
-use lib.ListN.{length}
 use Rattle.label_fields.proofs.Tabling.{Tabling}
 use Rattle.label_fields.proofs.fields.write_table.Given as goal
 
 abbrev pub invariant-loop-k : goal.invariant-loop-k
-invariant-loop-k l = (l.k ≤ length l.fields) × Tabling l.names l.fields l.initial.table l.table l.k
-
-abbrev pub decreases-loop-k : goal.decreases-loop-k
-decreases-loop-k l = l.k
+invariant-loop-k l = Tabling l.names l.fields l.initial.table l.table l.k

@@ -7,19 +7,19 @@ use Rattle.labels.proofs.read.escape.Goals as goal
 
 pub returns-then-escape_at-k : goal.returns-then-escape_at-k
 unfolding row_back all_of
-returns-then-escape_at-k c = rw (← c.bisect_u64-k.ensures) (simp (le-ltb _ _ c.if-escape_at-k.true))
+returns-then-escape_at-k c = rw (← c.bisect-k.ensures) (simp (le-ltb _ _ c.if-escape_at-k.true))
 
 pub returns-then-escape_at-k-2 : goal.returns-then-escape_at-k-2
 unfolding row_back all_of
-returns-then-escape_at-k-2 c = rw (← c.bisect_u64-k.ensures) (simp (lt-ltb _ _ c.if-escape_at-k.false, ne_eqb _ _ c.if-escape_at-k-2.true))
+returns-then-escape_at-k-2 c = rw (← c.bisect-k.ensures) (simp (lt-ltb _ _ c.if-escape_at-k.false, ne_eqb _ _ c.if-escape_at-k-2.true))
 
 pub returns-then-escape_label-k : goal.returns-then-escape_label-k
 unfolding row_back all_of
-returns-then-escape_label-k c = rw (← c.bisect_u64-k.ensures) (simp (lt-ltb _ _ c.if-escape_at-k.false, eq-eqb _ _ c.if-escape_at-k-2.false, le-ltb _ _ c.if-escape_label-k.true))
+returns-then-escape_label-k c = rw (← c.bisect-k.ensures) (simp (lt-ltb _ _ c.if-escape_at-k.false, eq-eqb _ _ c.if-escape_at-k-2.false, le-ltb _ _ c.if-escape_label-k.true))
 
 pub returns-then-fits : goal.returns-then-fits
 unfolding row_back all_of
-returns-then-fits c = rw (← c.bisect_u64-k.ensures) (simp (
+returns-then-fits c = rw (← c.bisect-k.ensures) (simp (
   lt-ltb _ _ c.if-escape_at-k.false,
   eq-eqb _ _ c.if-escape_at-k-2.false,
   lt-ltb _ _ c.if-escape_label-k.false,
@@ -28,7 +28,7 @@ returns-then-fits c = rw (← c.bisect_u64-k.ensures) (simp (
 
 pub returns : goal.returns
 unfolding row_back all_of
-returns c = rw (← c.bisect_u64-k.ensures) (simp (
+returns c = rw (← c.bisect-k.ensures) (simp (
   lt-ltb _ _ c.if-escape_at-k.false,
   eq-eqb _ _ c.if-escape_at-k-2.false,
   lt-ltb _ _ c.if-escape_label-k.false,

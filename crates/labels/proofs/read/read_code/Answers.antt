@@ -9,8 +9,8 @@ returns-then-code-eq-ESCAPED c = simp (eq-eqb _ _ c.if-code-eq-ESCAPED.true) c.e
 
 pub returns-then-code-ge-ELEMENT : goal.returns-then-code-ge-ELEMENT
 unfolding code_back
-returns-then-code-ge-ELEMENT c = simp (ne_eqb _ _ c.if-code-eq-ESCAPED.false, le-leb _ _ c.if-code-ge-ELEMENT.true) c.element.ensures
+returns-then-code-ge-ELEMENT c = simp (ne_eqb _ _ c.if-code-eq-ESCAPED.false, le-leb _ _ c.if-code-ge-ELEMENT.true) (rw c.from.ensures at c.element.ensures)
 
 pub returns : goal.returns
 unfolding code_back
-returns c = simp (ne_eqb _ _ c.if-code-eq-ESCAPED.false, lt-leb _ _ c.if-code-ge-ELEMENT.false) c.field.ensures
+returns c = simp (ne_eqb _ _ c.if-code-eq-ESCAPED.false, lt-leb _ _ c.if-code-ge-ELEMENT.false) (rw c.from-2.ensures at c.field.ensures)

@@ -2,7 +2,7 @@
 use mathlib.Core.Path.{◌≡◌}
 use mathlib.Core.Bool.{false}
 use mathlib.Core.List.{[]}
-use Prim.Native.Nat.{◌-◌, ◌≤◌}
+use Prim.Native.Nat.{◌≤◌}
 use Rattle.columns.specs.Lists.{tab}
 use Rattle.index.specs.Copied.{ids_of}
 use Rattle.edge_append.specs.Held.{copied_slot}
@@ -10,7 +10,4 @@ use Rattle.need_weak.specs.Pairs.{pairs_in}
 use Rattle.need_weak.proofs.copied.slots.Given as goal
 
 abbrev pub invariant-loop-k : goal.invariant-loop-k
-invariant-loop-k l = (l.k ≤ l.count) × (l.n ≤ l.k) × (l.n ≡ pairs_in l.ids (tab (copied_slot (ids_of l.codes l.escape_places l.escape_ids l.base) l.start [] l.slot_weak false l.first) l.k))
-
-abbrev pub decreases-loop-k : goal.decreases-loop-k
-decreases-loop-k l = l.count - l.k
+invariant-loop-k l = (l.n ≤ l.k) × (l.n ≡ pairs_in l.ids (tab (copied_slot (ids_of l.codes l.escape_places l.escape_ids l.base) l.start [] l.slot_weak false l.first) l.k))

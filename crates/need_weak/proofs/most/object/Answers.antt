@@ -4,21 +4,15 @@ use Rattle.need_weak.proofs.Bound.{most_none, most_plain, most_kept, most_some}
 use native.Mathlib.Omega.{arith}
 use Rattle.need_weak.proofs.most.object.Goals as goal
 
-pub returns-then-kind-ne-INSTANCE : goal.returns-then-kind-ne-INSTANCE
-returns-then-kind-ne-INSTANCE c = let a = c.args in record { is = most_none a.class_kinds.now a.slot_starts.now a.slot_ends.now a.slot_weak.now a.policy a.kind a.class c.if-kind-ne-INSTANCE.true; few = omega arith }
-
-pub bounds-class_kinds-class : goal.bounds-class_kinds-class
-bounds-class_kinds-class c = omega (arith, c.requires.slots_in.kind_in c.if-kind-ne-INSTANCE.false)
+pub returns-then-kind : goal.returns-then-kind
+returns-then-kind c = let a = c.args in record { is = most_none a.class_kinds.now a.slot_starts.now a.slot_ends.now a.slot_weak.now a.policy a.kind a.class c.if-kind.true; few = omega arith }
 
 pub returns-then-is_plain : goal.returns-then-is_plain
 returns-then-is_plain c = let a = c.args in record {
   is = most_plain a.class_kinds.now a.slot_starts.now a.slot_ends.now a.slot_weak.now a.policy a.kind a.class c.requires.mixed_value
-      (c.requires.slots_in.kind_in c.if-kind-ne-INSTANCE.false) c.is_plain.ensures c.if-is_plain.true;
+      (c.requires.slots_in.kind_in c.if-kind.false) c.is_plain.ensures c.if-is_plain.true;
   few = omega arith;
 }
-
-pub bounds-class_kinds-class-2 : goal.bounds-class_kinds-class-2
-bounds-class_kinds-class-2 c = omega (arith, c.requires.slots_in.kind_in c.if-kind-ne-INSTANCE.false)
 
 pub returns-then-keeps : goal.returns-then-keeps
 returns-then-keeps c = let a = c.args in record {
@@ -27,30 +21,10 @@ returns-then-keeps c = let a = c.args in record {
   few = omega arith;
 }
 
-pub offset_bounds-slot_starts-class : goal.offset_bounds-slot_starts-class
-offset_bounds-slot_starts-class c = omega (arith, c.requires.slots_in.start_in c.if-kind-ne-INSTANCE.false)
-
-pub bounds-slot_starts-class : goal.bounds-slot_starts-class
-bounds-slot_starts-class c = omega (arith, c.requires.slots_in.start_in c.if-kind-ne-INSTANCE.false)
-
-pub offset_bounds-slot_ends-class : goal.offset_bounds-slot_ends-class
-offset_bounds-slot_ends-class c = omega (arith, c.requires.slots_in.end_in c.if-kind-ne-INSTANCE.false)
-
-pub bounds-slot_ends-class : goal.bounds-slot_ends-class
-bounds-slot_ends-class c = omega (arith, c.requires.slots_in.end_in c.if-kind-ne-INSTANCE.false)
-
-pub overflow_sub-count : goal.overflow_sub-count
-overflow_sub-count c = omega (arith, c.index-first.ensures, c.index.ensures, c.requires.slots_in.ordered c.if-kind-ne-INSTANCE.false)
-
-pub slots-requires : goal.slots-requires
-slots-requires c = let f = c.requires.slots_in in
-    let z = c.if-kind-ne-INSTANCE.false in
-    omega (arith, c.index-first.ensures, c.index.ensures, f.ordered z, f.weak_in z)
-
 pub returns : goal.returns
 returns c = let a = c.args in
     let f = c.requires.slots_in in
-    let z = c.if-kind-ne-INSTANCE.false in
+    let z = c.if-kind.false in
     record {
       is = c.slots.ensures.is ∙ most_some a.class_kinds.now a.slot_starts.now a.slot_ends.now a.slot_weak.now a.policy a.kind a.class z
           c.keeps.ensures c.if-keeps.false c.index-first.ensures c.index.ensures;

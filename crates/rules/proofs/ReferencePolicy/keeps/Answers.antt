@@ -3,10 +3,10 @@ use borrow.Author.Tests.{eq-eqb, ne_eqb}
 use Rattle.rules.specs.Types.{keeps}
 use Rattle.rules.proofs.ReferencePolicy.keeps.Goals as goal
 
-pub returns-then-kind-eq-SOFT : goal.returns-then-kind-eq-SOFT
+pub returns-then-kind : goal.returns-then-kind
 unfolding keeps
-returns-then-kind-eq-SOFT c = simp (eq-eqb _ 1 c.if-kind-eq-SOFT.true)
+returns-then-kind c = simp (eq-eqb _ 1 c.if-kind.true)
 
-pub returns-else-kind-eq-SOFT : goal.returns-else-kind-eq-SOFT
+pub returns-else-kind : goal.returns-else-kind
 unfolding keeps
-returns-else-kind-eq-SOFT c = simp (ne_eqb _ 1 c.if-kind-eq-SOFT.false)
+returns-else-kind c = simp (ne_eqb _ 1 c.if-kind.false)

@@ -1,5 +1,4 @@
 -- `store::code::first_low` meets its contract: no place before i is low. Assumes nothing.
-use Prim.Native.Nat.{◌-◌}
 use lib.ListN.{length}
 use Rattle.columns.proofs.First.{Searching}
 use Rattle.store.specs.Blocked.{is_low}
@@ -7,6 +6,3 @@ use Rattle.store.proofs.code.first_low.Given as goal
 
 abbrev pub invariant-loop-i : goal.invariant-loop-i
 invariant-loop-i l = Searching (is_low l.values) (length l.values) l.i
-
-abbrev pub decreases-loop-i : goal.decreases-loop-i
-decreases-loop-i l = length l.values - l.i

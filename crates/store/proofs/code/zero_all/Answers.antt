@@ -5,8 +5,8 @@ use Rattle.store.proofs.code.zero_all.Goals as goal
 
 pub returns : goal.returns
 returns c = record {
-  bases = c.zero_u64.ensures ∙ cleared_all _;
-  short = c.zero_u16.ensures ∙ cleared_all _;
-  long_at = c.zero_u32.ensures ∙ cleared_all _;
-  long_value = c.zero_u64-2.ensures ∙ cleared_all _;
+  bases = c.zero.ensures ∙ cleared_all _;
+  short = c.zero-2.ensures ∙ cleared_all _;
+  long_at = c.zero-3.ensures ∙ cleared_all _;
+  long_value = c.zero-4.ensures ∙ cleared_all _;
 }

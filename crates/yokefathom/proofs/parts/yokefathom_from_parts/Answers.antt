@@ -3,4 +3,4 @@ use Rattle.yokefathom.proofs.Left.{parts-told}
 use Rattle.yokefathom.proofs.parts.yokefathom_from_parts.Goals as goal
 
 pub returns : goal.returns
-returns c = parts-told c.built-says.ensures c.from_parts-built.ensures
+returns c = parts-told c.built.ensures c.from_parts-built.ensures
