@@ -2,7 +2,7 @@
 use Prim.Native.Nat.{ℕ, zero, suc, ◌+◌, ◌^◌, ◌≤◌, ◌<◌}
 use native.Mathlib.Nat.{add-zero}
 use native.Mathlib.Omega.{arith}
-use mathlib.Core.Path.{◌≡◌, refl, sym, ap, subst, ◌∙◌}
+use mathlib.Core.Path.{◌≡◌, refl, sym, ap, ◌∙◌}
 use mathlib.Core.Bool.{Bool, true, false}
 use mathlib.Core.List.{List, [], ◌∷◌, map, append-nil}
 use mathlib.Core.Option.{Option, some, none}
@@ -10,8 +10,8 @@ use borrow.Author.Tests.{eq-eqb, ne_eqb}
 use lib.ListN.{length, set}
 use lib.Seq.{sets}
 use Rattle.columns.specs.Lists.{find}
-use Rattle.columns.specs.Ranks.{Rises, rank}
-use Rattle.lookup.specs.Lookup.{Sought, Stands, lookup_of, placed}
+use Rattle.columns.specs.Ranks.{rank}
+use Rattle.lookup.specs.Lookup.{lookup_of, placed}
 use Rattle.std.specs.Prelude.{Result, Ok, Err}
 use Rattle.rules.specs.Edges.{Ref, Outcome, edge, weak, missing, nothing, absent, outcome, edge_of, weak_of, missing_of}
 use Rattle.edge_append.specs.Append.{kind_of, ref_of, edges_among, weak_among, missing_among, edge_target, edge_label, with_edge, with_weak, with_missing, EdgeRoom, Appended}

@@ -1,12 +1,10 @@
 -- What a list of references appends: to the edges, to the weak targets and to the missing, from a pass state on. Assumes nothing.
-use Rattle.std.specs.Prelude.{ℕ, zero, suc, ◌+◌, ◌^◌, ◌≤◌, ◌<◌, ◌≡◌, Bool, List, map, ltb, length}
+use Rattle.std.specs.Prelude.{ℕ, zero, suc, ◌+◌, ◌^◌, ◌≤◌, ◌<◌, ◌≡◌, Bool, List, map, length}
 use Rattle.std.proofs.lemmas.List.Edits.{sets}
 use Rattle.columns.specs.Lists.{flat, sum}
 use Rattle.columns.specs.Ranks.{Rises}
 use Rattle.rules.specs.Edges.{Kind, slot, element, static, loader, Ref, Edge, ref_edge, ref_weak, ref_missing}
 use Rattle.edge_append.specs.declared.Pass.{Pass}
-use Rattle.edge_append.specs.declared.append.Source.{Source}
-use Rattle.edge_append.specs.declared.append.Source.TheVariants.{Slot, Element, Static, Loader}
 
 -- One id more: found and kept, found and not kept, or missing.
 abbrev pub with_edge : Pass → Pass
@@ -24,16 +22,6 @@ kind_of zero = slot
 kind_of (suc zero) = element
 kind_of (suc (suc zero)) = static
 kind_of (suc (suc (suc n))) = loader
-
--- A source's number, which is its row in the account; and whether a missing id there is dangling: "a missing loader is not."
-abbrev pub source_row : Source → ℕ
-source_row Slot = 0
-source_row Element = 1
-source_row Static = 2
-source_row Loader = 3
-
-abbrev pub dangles : Source → Bool
-dangles k = ltb (source_row k) 3
 
 abbrev pub ref_of : ℕ → ℕ → Bool → ℕ → Ref
 ref_of kind label kept id = record { kind = kind_of kind; label = label; kept = kept; id = id }

@@ -1,27 +1,18 @@
 // One reference appended: its id is looked up once, and what becomes of it is written where it finally stands, so that no hole is ever made.
 ghost use Rattle.std.specs.Prelude.{◌≡◌, [], ◌∷◌, ◌^◌, ◌<◌, length};
-ghost use Rattle.edge_append.specs.Append.{source_row, dangles, ref_of, EdgeRoom, Appended};
+ghost use Rattle.edge_append.specs.Append.{ref_of, EdgeRoom, Appended};
 ghost use Rattle.edge_append.specs.Held.{slot_with, element_with};
 
 use super::Pass;
 use edge_weak::is_kept;
 
-// The four kinds of references, in the order of the account's rows.
-#[derive(Clone, Copy, PartialEq, Eq)]
+// The four kinds of references, as the rows of the account.
+#[derive(Clone, Copy)]
 pub enum Source {
     Slot,
     Element,
     Static,
     Loader,
-}
-
-impl Source {
-    // Whether a missing id of this kind is dangling: "a missing loader is not."
-    fn dangles(self) -> bool
-        ensures { result ≡ dangles self }
-    {
-        self != Source::Loader
-    }
 }
 
 pub fn narrow(x: usize) -> u32
@@ -31,10 +22,11 @@ pub fn narrow(x: usize) -> u32
     x as u32
 }
 
-// "Id 0 gives nothing. Found and kept: an edge with the slot's label. Found, not kept: a weak pair. Not found: dangling, kept or not." The hints say where the search starts, and nothing else.
+// "Id 0 gives nothing. Found and kept: an edge with the slot's label. Found, not kept: a weak pair. Not found: dangling, kept or not." But "a missing
+// loader is not". The hints say where the search starts, and nothing else.
 pub fn append(
     s: Pass,
-    kind: Source,
+    kind: usize,
     label: u32,
     kept: bool,
     id: u64,
@@ -45,8 +37,8 @@ pub fn append(
     labels: &mut [u32],
     weak_to: &mut [u32],
 ) -> Pass
-    requires { EdgeRoom ids.now (ref_of (source_row kind) label kept id ∷ []) s (length targets.old) (length labels.old) (length weak_to.old) }
-    ensures { Appended ids.now (ref_of (source_row kind) label kept id ∷ []) s result targets.old labels.old weak_to.old targets.new labels.new weak_to.new }
+    requires { EdgeRoom ids.now (ref_of kind label kept id ∷ []) s (length targets.old) (length labels.old) (length weak_to.old) }
+    ensures { Appended ids.now (ref_of kind label kept id ∷ []) s result targets.old labels.old weak_to.old targets.new labels.new weak_to.new }
 {
     if id == 0 {
         return s;
@@ -64,7 +56,7 @@ pub fn append(
             s.absorb_weak()
         }
         Err(_) => {
-            if kind.dangles() {
+            if kind < Source::Loader as usize {
                 return s.absorb_missing();
             }
             s
@@ -95,7 +87,7 @@ pub fn append_slot(
     let kept = is_kept(slot_weak[place], keeps);
     append(
         s,
-        Source::Slot,
+        Source::Slot as usize,
         slot_labels[place],
         kept,
         id,
@@ -127,7 +119,7 @@ pub fn append_element(
     let label = rules::Label::element(narrow(k));
     append(
         s,
-        Source::Element,
+        Source::Element as usize,
         label.0,
         true,
         id,

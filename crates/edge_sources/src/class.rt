@@ -35,7 +35,7 @@ fn append_static(
     let label = rules::Label::field(static_names[place]);
     append::append(
         s,
-        append::Source::Static,
+        append::Source::Static as usize,
         label.0,
         true,
         static_values[place],
@@ -152,7 +152,7 @@ pub fn found_loader(
     let label = rules::Label::loader();
     append::append(
         s,
-        append::Source::Loader,
+        append::Source::Loader as usize,
         label.0,
         true,
         loaders[mark - 1],

@@ -1,7 +1,6 @@
 -- `edge_append::append::append` meets its contract: at each return the tests that led there say what becomes of the reference. Assumes nothing.
-use mathlib.Core.Path.{refl, sym, ◌∙◌}
+use mathlib.Core.Path.{refl}
 use native.Mathlib.Omega.{arith}
-use borrow.Author.Tests.{ltb-true, ltb-false}
 use Rattle.edge_append.proofs.Outcomes.{zero-nothing, kept-edge, other_weak, lost-missing, loader_nothing, one_room}
 use Rattle.edge_append.proofs.Outcomes.{nothing_appended, edge_appended, weak_appended, missing_appended}
 use Rattle.edge_append.proofs.append.append.Goals as goal
@@ -34,15 +33,15 @@ returns-else-kept c =
 
 pub absorb_missing-requires : goal.absorb_missing-requires
 absorb_missing-requires c =
-    let low = ltb-true _ _ (sym c.dangles.ensures ∙ c.if-dangles.true) in
+    let low = c.if-kind.true in
     (one_room (lost-missing _ _ _ _ _ c.if-id-eq0.false (c.in-Err.ensures.sought c.requires.rising) low) c.requires).3
 
-pub returns-then-dangles : goal.returns-then-dangles
-returns-then-dangles c =
-    let low = ltb-true _ _ (sym c.dangles.ensures ∙ c.if-dangles.true) in
+pub returns-then-kind : goal.returns-then-kind
+returns-then-kind c =
+    let low = c.if-kind.true in
     missing_appended (lost-missing _ _ _ _ _ c.if-id-eq0.false (c.in-Err.ensures.sought c.requires.rising) low) c.absorb_missing.ensures
 
-pub returns-else-dangles : goal.returns-else-dangles
-returns-else-dangles c =
-    let high = ltb-false _ _ (sym c.dangles.ensures ∙ c.if-dangles.false) in
+pub returns-else-kind : goal.returns-else-kind
+returns-else-kind c =
+    let high = c.if-kind.false in
     nothing_appended (loader_nothing _ _ _ _ _ c.if-id-eq0.false (c.in-Err.ensures.sought c.requires.rising) high) refl
