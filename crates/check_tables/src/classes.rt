@@ -75,32 +75,34 @@ pub fn first_class(
         slot_starts.now slot_ends.now static_starts.now static_ends.now
         slot_offsets.now slot_labels.now slot_weak.now static_names.now static_types.now names)) (length dumped.now) }
 {
-    for class in 0..dumped.len() {
-        if row_fault(
-            dumped[class],
-            class_kinds[class],
-            slot_starts[class],
-            slot_ends[class],
-            static_starts[class],
-            static_ends[class],
-            slot_offsets.len(),
-            static_names.len(),
-        ) {
-            return class;
-        }
-        let mut low: u64 = 0;
-        for slot in columns::index(slot_starts[class])..columns::index(slot_ends[class]) {
-            let offset = u64::from(slot_offsets[slot]);
-            if slot_fault(names, slot_labels[slot], slot_weak[slot], offset, low) {
-                return class;
+    'check: {
+        for class in 0..dumped.len() {
+            if row_fault(
+                dumped[class],
+                class_kinds[class],
+                slot_starts[class],
+                slot_ends[class],
+                static_starts[class],
+                static_ends[class],
+                slot_offsets.len(),
+                static_names.len(),
+            ) {
+                break 'check class;
             }
-            low = offset + 1;
+            let mut low: u64 = 0;
+            for slot in columns::index(slot_starts[class])..columns::index(slot_ends[class]) {
+                let offset = u64::from(slot_offsets[slot]);
+                if slot_fault(names, slot_labels[slot], slot_weak[slot], offset, low) {
+                    break 'check class;
+                }
+                low = offset + 1;
+            }
+            let from = columns::index(static_starts[class]);
+            let to = columns::index(static_ends[class]);
+            if statics_fault(static_names, static_types, names, from, to) {
+                break 'check class;
+            }
         }
-        let from = columns::index(static_starts[class]);
-        let to = columns::index(static_ends[class]);
-        if statics_fault(static_names, static_types, names, from, to) {
-            return class;
-        }
+        dumped.len()
     }
-    dumped.len()
 }

@@ -44,5 +44,5 @@ loop-class-preserved c =
     class_passed _ c.loop-class.invariant c.loop-class-test.true c.row_fault.ensures c.if-row_fault.false c.loop-slot.invariant.0 (omega arith) c.index-from.ensures c.index-to.ensures
     c.statics_fault.ensures c.if-statics_fault.false
 
-pub returns : goal.returns
-returns c = searching_over c.loop-class.invariant c.loop-class-test.false
+pub returns-after-loop-class : goal.returns-after-loop-class
+returns-after-loop-class c = searching_over c.loop-class.invariant c.loop-class-test.false
