@@ -10,10 +10,9 @@ use ask_short::Lean;
 use labels::Unread;
 use rules::ReadError;
 
-// The target of a field of an object: of its first edge whose coarse label matches. An escape cannot be read here. Compiled into each of its callers: one that
-// is called has its columns written to memory and read back.
+// The field that both questions ask, compiled into each: one that is called has its columns written to memory and read back. An escape cannot be read here.
 #[inline(always)]
-pub fn field(graph: Lean<'_>, object: usize, label: u32) -> Result<Option<u32>, ReadError>
+fn found(graph: Lean<'_>, object: usize, label: u32) -> Result<Option<u32>, ReadError>
     ensures { field_says result ≡ field_found (lean_in graph.entry) object label }
 {
     let at = graph.span(object)?;
@@ -28,7 +27,15 @@ pub fn field(graph: Lean<'_>, object: usize, label: u32) -> Result<Option<u32>, 
     ask_field::sought_answer(graph.targets, at.start, sought, object)
 }
 
-// The target of a field of an object, or where it has none its smallest weak target.
+// The target of a field of an object: of its first edge whose coarse label matches.
+pub fn field(graph: Lean<'_>, object: usize, label: u32) -> Result<Option<u32>, ReadError>
+    ensures { field_says result ≡ field_found (lean_in graph.entry) object label }
+{
+    found(graph, object, label)
+}
+
+// The target of a field of an object, or where it has none its smallest weak target. It does not ask `field`: a function of one caller is compiled into its
+// caller.
 pub fn referent(
     graph: Lean<'_>,
     weak_from: &[u32],
@@ -38,7 +45,7 @@ pub fn referent(
 ) -> Result<Option<u32>, ReadError>
     ensures { referent_says result ≡ referent_found (lean_with graph.entry weak_from.now weak_to.now) object label }
 {
-    match field(graph, object, label)? {
+    match found(graph, object, label)? {
         Some(t) => Ok(Some(t)),
         None => ask_field::first_weak(graph.short, weak_from, weak_to, object),
     }

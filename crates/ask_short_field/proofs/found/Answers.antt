@@ -1,4 +1,4 @@
--- `ask_short_field::field` meets its contract: by the span, and by what was sought. Assumes nothing.
+-- `ask_short_field::found` meets its contract: by the span, and by what was sought. Assumes nothing.
 use mathlib.Core.Path.{◌≡◌, sym, ◌∙◌}
 use mathlib.Core.List.{[]}
 use native.Mathlib.Omega.{arith}
@@ -9,7 +9,7 @@ use Rattle.labels.specs.Reading.{read_says}
 use Rattle.ask_span.proofs.Spans.{span_inside}
 use Rattle.ask_field.proofs.Fields.{sought_within, field_is, field_refused}
 use Rattle.ask_short_field.proofs.Plain.{unread-says}
-use Rattle.ask_short_field.proofs.field.Goals as goal
+use Rattle.ask_short_field.proofs.found.Goals as goal
 
 pub returns-in_err-at : goal.returns-in_err-at
 returns-in_err-at c = let p = err_from_is_err_and c.from_residual.result c.from_residual.ensures.1 in
