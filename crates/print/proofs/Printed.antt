@@ -1,11 +1,12 @@
 -- How many digits a number has as it is written, and what a turn of a column's loop keeps, at any width. Assumes nothing.
 use Rattle.std.proofs.Common.{◌≡◌, ℕ, zero, suc, ◌+◌, ◌-◌, ◌/◌, ◌%◌, ◌^◌, ◌<◌, ◌≤◌, inl, inr, List, [], ◌∷◌, length, take, sym, refl, ap, add-one, arith, take-suc, le-ltb, lt-ltb, length-append, eq-zero-or-pos}
+use lib.Seq.{take-length}
 use Rattle.io.specs.Digits.{IsDigitCount}
 use Rattle.std.specs.Fmt.{decimal}
 use Rattle.std.proofs.lemmas.Fmt.{decimal_digit, decimal_step}
 use Rattle.columns.specs.Lists.{◌!◌, sum}
 use Rattle.columns.proofs.Sums.{sum-append}
-use Rattle.print.specs.Printed.{digits_by, digit_count, spaced_bytes}
+use Rattle.print.specs.Printed.{digits_by, digit_count, spaced_bytes, column_bytes}
 
 digits_written : (k n : ℕ) → n ≤ k → n < 2 ^ 64 → length (decimal n) ≡ digits_by k n
 unfolding digits_by
@@ -53,3 +54,6 @@ module _ (text xs : List ℕ) where
         within = omega arith;
         counted = rw (add-one, take-suc xs i 0 l, ← a) (omega (arith, sum-append spaced_bytes (take i xs) (n ∷ [])));
       }
+
+  pub writing_ends : {bytes i : ℕ} (now : ℕ) → Writing text xs bytes i → length xs ≤ i → now ≡ (bytes + 1) % 2 ^ 64 → now ≡ column_bytes text xs
+  writing_ends {bytes} {i} now w l e = let all : i ≡ length xs = omega arith in omega (arith, rw (all, take-length) at w.counted)
