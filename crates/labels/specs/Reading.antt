@@ -36,11 +36,11 @@ code_back fields at ls e n c =
     cond (is_escaped c) (row_back at ls e c (bisect at e)) (cond (leb 32768 c) (element_back (n + (c - 32768))) (field_back fields c))
 
 -- the label of the edge e, where n is expected; of the k-th edge of the object whose edges begin at e
-abbrev pub read_back : Coded → ℕ → ℕ → List ℕ
-read_back d e n = code_back d.fields d.escape_at d.escape_label e n (d.codes ! e)
+abbrev pub edge_label_back : Coded → ℕ → ℕ → List ℕ
+edge_label_back d e n = code_back d.fields d.escape_at d.escape_label e n (d.codes ! e)
 
 abbrev pub step_back : Coded → ℕ → ℕ → ℕ → List ℕ
-step_back d e k n = read_back d (e + k) n
+step_back d e k n = edge_label_back d (e + k) n
 
 -- What is expected behind the first k edges: nothing where one of them cannot be read.
 abbrev pub next_of : ℕ → List ℕ → List ℕ

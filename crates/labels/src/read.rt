@@ -3,7 +3,7 @@ ghost use Rattle.std.specs.Prelude.{◌≡◌, ◌+◌, ◌<◌, leb, length};
 ghost use Rattle.std.specs.Bool.{beq};
 ghost use Rattle.columns.specs.Ranks.{bisect};
 ghost use Rattle.rules.specs.Types.{is_element};
-ghost use Rattle.labels.specs.Reading.{read_says, coded_in, read_back, row_back, element_back, field_back, code_back, coarse_back, walk_back, exact_back};
+ghost use Rattle.labels.specs.Reading.{read_says, coded_in, edge_label_back, row_back, element_back, field_back, code_back, coarse_back, walk_back, exact_back};
 
 use super::code::{ELEMENT, ESCAPED, after};
 use super::{Codes, Unread};
@@ -86,7 +86,7 @@ impl<'a> Codes<'a> {
     // The label of an edge by its code, as `read_code`.
     fn read(self, edge: usize, next: u32) -> Result<Label, Unread>
         requires { edge < length self.codes.now }
-        ensures { read_says result ≡ read_back (coded_in self.entry) edge next }
+        ensures { read_says result ≡ edge_label_back (coded_in self.entry) edge next }
     {
         read_code(
             self.codes[edge],
