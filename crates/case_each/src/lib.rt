@@ -12,30 +12,39 @@ use case_text::column::used;
 use std::io;
 use words::Named;
 
+fn tell(rt: &impl Print, label: u32) -> io::Result<()> {
+    print::word(rt, b"  each ")?;
+    Named(label).tell(rt)
+}
+
 // Each of the two columns one number short; an empty list needs no room.
 fn one_short(rt: &impl Print, graph: Strong<'_>, objects: &[u32], label: u32) -> io::Result<()> {
     let count = objects.len();
     if count == 0 {
         return Ok(());
     }
-    print!(rt; " short")?;
+    print::word(rt, b" short")?;
     lent::run(rt, graph, objects, label, count - 1, count)?;
     lent::run(rt, graph, objects, label, count, count - 1)
 }
 
 // The objects that exist.
 fn existing(rt: &impl Print, graph: Strong<'_>, objects: &[u32], label: u32) -> io::Result<()> {
-    print!(rt; "  each {}:", Named(label))?;
+    tell(rt, label)?;
+    print::word(rt, b":")?;
     lent::run(rt, graph, objects, label, objects.len(), objects.len())?;
     one_short(rt, graph, objects, label)?;
-    println!(rt)
+    print::word(rt, b"\n")?;
+    Ok(())
 }
 
 // The whole list.
 fn whole(rt: &impl Print, graph: Strong<'_>, objects: &[u32], label: u32) -> io::Result<()> {
-    print!(rt; "  each {} of all:", Named(label))?;
+    tell(rt, label)?;
+    print::word(rt, b" of all:")?;
     lent::refusal(rt, graph, objects, label)?;
-    println!(rt)
+    print::word(rt, b"\n")?;
+    Ok(())
 }
 
 // Both lists, asked a label.

@@ -1,5 +1,6 @@
 // What is written of a call: an answer for each object, or the refusal.
 use crate::words::refusal;
+use case_text::form;
 use case_text::zero::zero;
 use rules::ListError;
 use std::io;
@@ -7,9 +8,9 @@ use std::io;
 // Nothing found is target 0 and mark 0. Other marks are no answer.
 fn answer(rt: &impl Print, target: u32, mark: u8) -> io::Result<()> {
     match (mark, target) {
-        (1, _) => print!(rt; " {target}"),
-        (0, 0) => print!(rt; " nothing"),
-        _ => print!(rt; " wrong"),
+        (1, _) => form::fill(rt, b" #", &[u64::from(target)]),
+        (0, 0) => form::fill(rt, b" nothing", &[]),
+        _ => form::fill(rt, b" wrong", &[]),
     }
 }
 
@@ -35,8 +36,9 @@ pub(crate) fn said(
 
 pub(crate) fn left(rt: &impl Print, own_targets: &[u32], found: &[u8]) -> io::Result<()> {
     if zero(own_targets) && zero(found) {
-        print!(rt; " left zero")
+        print::word(rt, b" left zero")?;
     } else {
-        print!(rt; " left NOT zero")
+        print::word(rt, b" left NOT zero")?;
     }
+    Ok(())
 }

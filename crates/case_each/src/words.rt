@@ -1,22 +1,24 @@
 // How a question's label and its refusal are written.
+use case_text::form;
 use rules::{Label, ListError};
-use std::{fmt, io};
+use std::io;
 
 // The loader and the elements are named, any other label is its number.
 #[derive(Clone, Copy)]
 pub struct Named(pub u32);
 
-impl fmt::Display for Named {
-    fn fmt<W: fmt::Write>(&self, f: &mut fmt::Formatter<W>) -> fmt::Result {
+impl Named {
+    pub fn tell(self, rt: &impl Print) -> io::Result<()> {
         let label = self.0;
         if label == Label::LOADER {
-            f.write_str("loader")
+            print::word(rt, b"loader")?;
         } else if label < Label::ARRAY_ELEMENT {
-            write!(f, "{label}")
+            print::number(rt, u64::from(label))?;
         } else {
-            let index = label - Label::ARRAY_ELEMENT;
-            write!(f, "#{index}")
+            print::word(rt, b"#")?;
+            print::number(rt, u64::from(label - Label::ARRAY_ELEMENT))?;
         }
+        Ok(())
     }
 }
 
@@ -24,21 +26,22 @@ impl fmt::Display for Named {
 #[derive(Clone, Copy)]
 pub struct Refused(pub ListError);
 
-impl fmt::Display for Refused {
-    fn fmt<W: fmt::Write>(&self, f: &mut fmt::Formatter<W>) -> fmt::Result {
+impl Refused {
+    pub fn tell(self, rt: &impl Print) -> io::Result<()> {
         match self.0 {
-            ListError::Room(buffer) => write!(f, "room {buffer}"),
-            ListError::Index(at) => write!(f, "index {at}"),
-            ListError::Columns(at) => write!(f, "columns {at}"),
+            ListError::Room(buffer) => form::fill(rt, b"room #", &[buffer as u64]),
+            ListError::Index(at) => form::fill(rt, b"index #", &[at as u64]),
+            ListError::Columns(at) => form::fill(rt, b"columns #", &[at as u64]),
         }
     }
 }
 
 // A refusal of a question that writes into lent columns, and a mark where it did not leave them zero.
 pub fn refusal(rt: &impl Print, e: ListError, left_zero: bool) -> io::Result<()> {
-    if left_zero {
-        print!(rt; " {}", Refused(e))
-    } else {
-        print!(rt; " {}!", Refused(e))
+    print::word(rt, b" ")?;
+    Refused(e).tell(rt)?;
+    if !left_zero {
+        print::word(rt, b"!")?;
     }
+    Ok(())
 }

@@ -3,11 +3,11 @@
 use crate::{edges, lists};
 use ask_span::Graph;
 use case_each::words::{Named, Refused};
-use case_text::arrays;
 use case_text::arrays::EDGES;
 use case_text::lists::of;
+use case_text::{arrays, form};
 use rules::ReadError;
-use std::{fmt, io};
+use std::io;
 
 // What a question asks: an object, and a label or a target.
 #[derive(Clone, Copy)]
@@ -30,15 +30,32 @@ fn pair_at(pairs: &[u32], i: usize) -> Pair {
     }
 }
 
-fn show<D: fmt::Display + Drop>(
-    rt: &impl Print,
-    answer: Result<Option<D>, ReadError>,
-) -> io::Result<()> {
-    match answer {
-        Ok(Some(found)) => println!(rt; "{found}"),
-        Ok(None) => println!(rt; "nothing"),
-        Err(e) => println!(rt; "{}", Refused(e.into())),
+// What a question finds: a target is told by its number, a label by its name.
+trait Found: Copy {
+    fn show(self, rt: &impl Print) -> io::Result<()>;
+}
+
+impl Found for u32 {
+    fn show(self, rt: &impl Print) -> io::Result<()> {
+        print::number(rt, u64::from(self))?;
+        Ok(())
     }
+}
+
+impl Found for Named {
+    fn show(self, rt: &impl Print) -> io::Result<()> {
+        self.tell(rt)
+    }
+}
+
+fn show<F: Found>(rt: &impl Print, answer: Result<Option<F>, ReadError>) -> io::Result<()> {
+    match answer {
+        Ok(Some(found)) => found.show(rt)?,
+        Ok(None) => form::fill(rt, b"nothing", &[])?,
+        Err(e) => Refused(e.into()).tell(rt)?,
+    }
+    print::word(rt, b"\n")?;
+    Ok(())
 }
 
 // The line of each object. Its long arrays need the stack only while it runs.
@@ -55,7 +72,9 @@ fn objects(rt: &impl Print, graph: Graph<'_>, count: usize) -> io::Result<()> {
 fn field_answers(rt: &impl Print, graph: Graph<'_>, pairs: &[u32]) -> io::Result<()> {
     for i in 0..pairs.len() / 2 {
         let p = pair_at(pairs, i);
-        print!(rt; "  field {} {}: ", p.object, Named(p.other))?;
+        form::fill(rt, b"  field # ", &[u64::from(p.object)])?;
+        Named(p.other).tell(rt)?;
+        print::word(rt, b": ")?;
         show(
             rt,
             ask_field::field(graph.strong(), p.object as usize, p.other),
@@ -67,7 +86,9 @@ fn field_answers(rt: &impl Print, graph: Graph<'_>, pairs: &[u32]) -> io::Result
 fn referent_answers(rt: &impl Print, graph: Graph<'_>, pairs: &[u32]) -> io::Result<()> {
     for i in 0..pairs.len() / 2 {
         let p = pair_at(pairs, i);
-        print!(rt; "  referent {} {}: ", p.object, Named(p.other))?;
+        form::fill(rt, b"  referent # ", &[u64::from(p.object)])?;
+        Named(p.other).tell(rt)?;
+        print::word(rt, b": ")?;
         show(rt, ask_field::referent(graph, p.object as usize, p.other))?;
     }
     Ok(())
@@ -76,7 +97,8 @@ fn referent_answers(rt: &impl Print, graph: Graph<'_>, pairs: &[u32]) -> io::Res
 fn label_answers(rt: &impl Print, graph: Graph<'_>, pairs: &[u32]) -> io::Result<()> {
     for i in 0..pairs.len() / 2 {
         let p = pair_at(pairs, i);
-        print!(rt; "  label_of {} {}: ", p.object, p.other)?;
+        let numbers = [u64::from(p.object), u64::from(p.other)];
+        form::fill(rt, b"  label_of # #: ", &numbers)?;
         let answer = ask_label::label_of(graph.strong(), p.object as usize, p.other);
         show(rt, answer.map(|found| found.map(|l| Named(l.0))))?;
     }

@@ -1,8 +1,8 @@
 // The line of an object: its span, its edges in exactly the room that they need, what is said of one number less, and its weak targets.
 use ask_span::{Graph, Strong};
 use case_each::words::{Named, Refused, refusal};
-use case_text::column;
 use case_text::zero::zero;
+use case_text::{column, form};
 use rules::{ListError, ReadError, Span};
 use std::io;
 
@@ -15,9 +15,11 @@ struct Run {
 }
 
 fn show_run(rt: &impl Print, r: Run) -> io::Result<()> {
-    print!(rt; " {}:{}", r.target, Named(r.first))?;
+    form::fill(rt, b" #:", &[u64::from(r.target)])?;
+    Named(r.first).tell(rt)?;
     if r.first < r.last {
-        print!(rt; "..{}", Named(r.last))?;
+        print::word(rt, b"..")?;
+        Named(r.last).tell(rt)?;
     }
     Ok(())
 }
@@ -83,16 +85,22 @@ fn edges(
 }
 
 fn show_span(rt: &impl Print, at: Result<Span, ReadError>) -> io::Result<()> {
+    print::word(rt, b" span ")?;
     match at {
-        Ok(s) => print!(rt; " span {} {}", s.start, s.end),
-        Err(e) => print!(rt; " span {}", Refused(e.into())),
+        Ok(s) => form::fill(rt, b"# #", &[s.start as u64, s.end as u64]),
+        Err(e) => Refused(e.into()).tell(rt),
     }
 }
 
 fn show_weak(rt: &impl Print, weak_to: &[u32], rows: Result<Span, ReadError>) -> io::Result<()> {
     match rows {
         Ok(s) => column::of(rt, " weak", column::part(weak_to, s.start, s.end)),
-        Err(e) => println!(rt; " weak {}", Refused(e.into())),
+        Err(e) => {
+            print::word(rt, b" weak ")?;
+            Refused(e.into()).tell(rt)?;
+            print::word(rt, b"\n")?;
+            Ok(())
+        }
     }
 }
 
@@ -108,7 +116,7 @@ fn one_short(
     if count == 0 {
         return Ok(());
     }
-    print!(rt; " short")?;
+    print::word(rt, b" short")?;
     edges(rt, graph, object, count - 1, count, own_targets, own_labels)?;
     edges(rt, graph, object, count, count - 1, own_targets, own_labels)
 }
@@ -122,9 +130,9 @@ pub(crate) fn object(
 ) -> io::Result<()> {
     let strong = graph.strong();
     let at = strong.span(o);
-    print!(rt; "  object {o}")?;
+    form::fill(rt, b"  object #", &[o as u64])?;
     show_span(rt, at)?;
-    print!(rt; " edges")?;
+    print::word(rt, b" edges")?;
     let count = at.map_or(0, |s| s.end.saturating_sub(s.start));
     edges(rt, strong, o, count, count, own_targets, own_labels)?;
     one_short(rt, strong, o, count, own_targets, own_labels)?;

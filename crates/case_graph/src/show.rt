@@ -3,9 +3,9 @@ use crate::answers;
 use crate::case::Numbers;
 use ask_span::Graph;
 use case_text::arrays::{blocks, offsets};
-use case_text::column;
 use case_text::column::used;
 use case_text::zero::zero;
+use case_text::{column, form};
 use labels::Codes;
 use rules::{Counts, Refusal};
 use std::io;
@@ -14,29 +14,40 @@ use store::Offsets;
 // Document 01's number of a refusal, and its place.
 fn refused(rt: &impl Print, r: Refusal) -> io::Result<()> {
     let says = answer_builds::built(Err(r));
-    println!(rt; "  refused: {} at {}", says[1], says[2])
+    form::fill(rt, b"  refused: # at #\n", &[says[1], says[2]])
 }
 
 fn counts(rt: &impl Print, c: Counts) -> io::Result<()> {
-    println!(rt;
-        "  done: edges {}, weak {}, roots {}, long {}, fields {}, escapes {}, dangling {}",
-        c.edges, c.weak, c.roots, c.long, c.fields, c.escapes, c.dangling
+    form::fill(
+        rt,
+        b"  done: edges #, weak #, roots #, long #, fields #, escapes #, dangling #\n",
+        &[
+            c.edges as u64,
+            c.weak as u64,
+            c.roots as u64,
+            c.long as u64,
+            c.fields as u64,
+            c.escapes as u64,
+            c.dangling,
+        ],
     )
 }
 
 // What is the same under every policy: edges and weak pairs together, and the ids that no object has.
 fn references(rt: &impl Print, c: Counts) -> io::Result<()> {
-    let sum = c.edges.wrapping_add(c.weak);
-    println!(rt;
-        "  references: edges {} + weak {} = {sum}, dangling {}",
-        c.edges, c.weak, c.dangling
+    let edges = c.edges as u64;
+    let weak = c.weak as u64;
+    form::fill(
+        rt,
+        b"  references: edges # + weak # = #, dangling #\n",
+        &[edges, weak, edges.wrapping_add(weak), c.dangling],
     )
 }
 
 // A kind's edges, weak pairs and missing ids.
 fn kind(rt: &impl Print, name: &str, row: [u64; 3]) -> io::Result<()> {
-    let [edges, weak, missing] = row;
-    print!(rt; "{name} {edges} {weak} {missing}")
+    print::word(rt, name.as_bytes())?;
+    form::fill(rt, b" # # #", &row)
 }
 
 fn account_of(rt: &impl Print, account: [[u64; 3]; 4]) -> io::Result<()> {
@@ -44,7 +55,8 @@ fn account_of(rt: &impl Print, account: [[u64; 3]; 4]) -> io::Result<()> {
     kind(rt, ", element", account[1])?;
     kind(rt, ", static", account[2])?;
     kind(rt, ", loader", account[3])?;
-    println!(rt)
+    print::word(rt, b"\n")?;
+    Ok(())
 }
 
 // Whether nothing is left of the edges,
@@ -254,8 +266,9 @@ pub fn outcome(
         && zero_offsets(bases, short, long_at, long_value, fields, table)
         && zero_codes(escape_at, escape_label, codes, counting, ranking)
     {
-        println!(rt; "  left zero")
+        print::word(rt, b"  left zero\n")?;
     } else {
-        println!(rt; "  left NOT zero")
+        print::word(rt, b"  left NOT zero\n")?;
     }
+    Ok(())
 }

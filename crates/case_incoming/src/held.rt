@@ -1,19 +1,20 @@
 // Who holds each object: how many edges go to it, and the first and the last of them. Behind the last object the questions answer INDEX.
+use case_text::form;
 use incoming::Incoming;
 use rules::{Entry, ReadError};
 use std::io;
 
 fn refused(rt: &impl Print, e: ReadError) -> io::Result<()> {
     match e {
-        ReadError::Index(at) => print!(rt; " index {at}"),
-        ReadError::Columns(at) => print!(rt; " columns {at}"),
+        ReadError::Index(at) => form::fill(rt, b" index #", &[at as u64]),
+        ReadError::Columns(at) => form::fill(rt, b" columns #", &[at as u64]),
     }
 }
 
 // An entry is an object that holds, and the place of its edge.
 fn entry(rt: &impl Print, found: Result<Entry, ReadError>) -> io::Result<()> {
     match found {
-        Ok(e) => print!(rt; " {} at {}", e.source, e.place),
+        Ok(e) => form::fill(rt, b" # at #", &[u64::from(e.source), u64::from(e.place)]),
         Err(e) => refused(rt, e),
     }
 }
@@ -22,7 +23,7 @@ fn entry(rt: &impl Print, found: Result<Entry, ReadError>) -> io::Result<()> {
 fn count(rt: &impl Print, degree: Result<usize, ReadError>) -> io::Result<usize> {
     match degree {
         Ok(n) => {
-            print!(rt; " {n}")?;
+            form::fill(rt, b" #", &[n as u64])?;
             Ok(n)
         }
         Err(e) => {
@@ -42,22 +43,22 @@ fn first_and_last(
     if count == 0 {
         return Ok(());
     }
-    print!(rt; " first")?;
+    print::word(rt, b" first")?;
     entry(rt, incoming.entry_at(object, 0))?;
     if count == 1 {
         return Ok(());
     }
-    print!(rt; " last")?;
+    print::word(rt, b" last")?;
     entry(rt, incoming.entry_at(object, count - 1))
 }
 
 // There is an offset more than objects.
 pub(crate) fn objects(rt: &impl Print, incoming: Incoming<'_>) -> io::Result<()> {
     for o in 0..incoming.offsets.short.len() {
-        print!(rt; "  held {o}:")?;
+        form::fill(rt, b"  held #:", &[o as u64])?;
         let n = count(rt, incoming.in_degree(o))?;
         first_and_last(rt, incoming, o, n)?;
-        println!(rt)?;
+        print::word(rt, b"\n")?;
     }
     Ok(())
 }

@@ -1,6 +1,6 @@
 // What is written of the columns: each whole, or the refusal and whether it left all of them zero.
-use case_text::column;
 use case_text::zero::zero;
+use case_text::{column, form};
 use incoming::Incoming;
 use rules::{Inverse, InvertError};
 use std::io;
@@ -18,7 +18,7 @@ const NAMES: [&str; 7] = [
 // Document 01's number of a refusal, and its place.
 fn refused(rt: &impl Print, answer: Result<Inverse, InvertError>) -> io::Result<()> {
     let says = answer_numbers::numbers(answer);
-    print!(rt; " refused: {} at {}", says[1], says[2])
+    form::fill(rt, b" refused: # at #", &[says[1], says[2]])
 }
 
 // The columns whole. They have just the room that they need: anything but an acceptance is told.
@@ -29,11 +29,12 @@ pub(crate) fn columns(
     working: &[u64],
 ) -> io::Result<()> {
     if let Ok(i) = answer {
-        println!(rt; "  incoming: entries {}, long {}", i.entries, i.long)?;
+        let numbers = [i.entries as u64, i.long as u64];
+        form::fill(rt, b"  incoming: entries #, long #\n", &numbers)?;
     } else {
-        print!(rt; "  incoming")?;
+        print::word(rt, b"  incoming")?;
         refused(rt, answer)?;
-        println!(rt)?;
+        print::word(rt, b"\n")?;
     }
     column::of(rt, "  sources", incoming.sources)?;
     column::of(rt, "  places", incoming.places)?;
@@ -62,12 +63,15 @@ pub(crate) fn refusal(
     working: &[u64],
 ) -> io::Result<()> {
     if let Some(name) = NAMES.get(k) {
-        print!(rt; "  {name} short")?;
+        print::word(rt, b"  ")?;
+        print::word(rt, name.as_bytes())?;
+        print::word(rt, b" short")?;
     }
     refused(rt, answer)?;
     if is_zero(incoming) && zero(working) {
-        println!(rt; " left zero")
+        print::word(rt, b" left zero\n")?;
     } else {
-        println!(rt; " left NOT zero")
+        print::word(rt, b" left NOT zero\n")?;
     }
+    Ok(())
 }

@@ -1,6 +1,7 @@
 // How a column is written: its numbers with a space before each, a stretch of eight or more with one step between them as `n*x` or `n*x+d`.
 ghost use Rattle.std.specs.Prelude.{◌<◌, IfOk, IfSome, length};
 
+use crate::form;
 use columns::Number;
 use std::io;
 
@@ -41,25 +42,27 @@ fn told<T: Number>(rt: &impl Print, xs: &[T], at: usize) -> io::Result<usize>
     if let Some((step, end)) = stretch(xs, at)
         && LONG <= end - at
     {
-        let count = end - at;
+        let count = (end - at) as u64;
         if 0 < step {
-            print!(rt; " {count}*{first}+{step}")?;
+            form::fill(rt, b" #*#+#", &[count, first, step])?;
         } else {
-            print!(rt; " {count}*{first}")?;
+            form::fill(rt, b" #*#", &[count, first])?;
         }
         return Ok(end);
     }
-    print!(rt; " {first}")?;
+    print::word(rt, b" ")?;
+    print::number(rt, first)?;
     Ok(at + 1)
 }
 
 pub fn of<T: Number>(rt: &impl Print, name: &str, xs: &[T]) -> io::Result<()> {
-    print!(rt; "{name}")?;
+    print::word(rt, name.as_bytes())?;
     let mut i = 0;
     while i < xs.len() {
         i = told(rt, xs, i)?;
     }
-    println!(rt)
+    print::word(rt, b"\n")?;
+    Ok(())
 }
 
 // The columns of the offsets and of the fields, each whole, with what is behind its used part.

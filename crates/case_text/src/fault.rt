@@ -1,5 +1,6 @@
 // What can be wrong with the text, and how it is told.
-use std::{fmt, io};
+use crate::form;
+use std::io;
 
 #[derive(Clone, Copy)]
 pub enum Fault {
@@ -16,9 +17,9 @@ pub enum Fault {
     TextTooLong,
 }
 
-impl fmt::Display for Fault {
-    fn fmt<W: fmt::Write>(&self, f: &mut fmt::Formatter<W>) -> fmt::Result {
-        f.write_str(match self {
+impl Fault {
+    fn words(self) -> &'static str {
+        match self {
             Fault::NoListYet => "a list is missing before this place",
             Fault::ListTooMany => "a list more than a case has",
             Fault::ListNotClosed => "the list is not closed",
@@ -30,7 +31,7 @@ impl fmt::Display for Fault {
             Fault::WrongRooms => "the rooms of the case, in sets of seventeen",
             Fault::OddQuestions => "a question is not a pair",
             Fault::TextTooLong => "the text is too long",
-        })
+        }
     }
 }
 
@@ -41,11 +42,13 @@ pub struct Malformed {
     pub why: Fault,
 }
 
-impl fmt::Display for Malformed {
-    fn fmt<W: fmt::Write>(&self, f: &mut fmt::Formatter<W>) -> fmt::Result {
-        let at = self.at;
-        let why = self.why;
-        write!(f, "malformed text at byte {at}: {why}")
+impl Malformed {
+    // On a line of its own.
+    pub fn tell(self, rt: &impl Print) -> io::Result<()> {
+        form::fill(rt, b"malformed text at byte #: ", &[self.at as u64])?;
+        print::word(rt, self.why.words().as_bytes())?;
+        print::word(rt, b"\n")?;
+        Ok(())
     }
 }
 
@@ -72,7 +75,7 @@ impl From<io::Error> for Ended {
 pub fn tell(rt: &impl Print, run: Result<(), Ended>) -> io::Result<()> {
     match run {
         Ok(()) => Ok(()),
-        Err(Ended::Malformed(m)) => println!(rt; "{m}"),
+        Err(Ended::Malformed(m)) => m.tell(rt),
         Err(Ended::Io(e)) => Err(e),
     }
 }

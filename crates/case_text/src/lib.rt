@@ -5,6 +5,7 @@
 pub mod arrays;
 pub mod column;
 pub mod fault;
+pub mod form;
 pub mod input;
 pub mod lists;
 pub mod refusal;

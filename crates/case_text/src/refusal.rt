@@ -1,6 +1,7 @@
 // How a refusal is told: document 01's name and number, and its place.
+use crate::form;
 use rules::{ListError, ReadError, Refusal};
-use std::fmt;
+use std::io;
 
 #[derive(Clone, Copy)]
 pub struct Refused(pub Refusal);
@@ -21,23 +22,32 @@ impl From<ListError> for Refused {
     }
 }
 
-impl fmt::Display for Refused {
-    fn fmt<W: fmt::Write>(&self, f: &mut fmt::Formatter<W>) -> fmt::Result {
+impl Refused {
+    pub fn tell(self, rt: &impl Print) -> io::Result<()> {
         match self.0 {
-            Refusal::Lengths => write!(f, "LENGTHS, 1"),
-            Refusal::Limit => write!(f, "LIMIT, 2"),
-            Refusal::Object(at) => write!(f, "OBJECT, 3, at {at}"),
-            Refusal::Class(at) => write!(f, "CLASS, 4, at {at}"),
-            Refusal::Copied(at) => write!(f, "COPIED, 5, at {at}"),
-            Refusal::Span(at) => write!(f, "SPAN, 6, at {at}"),
-            Refusal::Root(at) => write!(f, "ROOT, 7, at {at}"),
-            Refusal::Places => write!(f, "PLACES, 8"),
-            Refusal::Room(buffer) => write!(f, "ROOM, 9, buffer {buffer}"),
+            Refusal::Lengths => form::fill(rt, b"LENGTHS, 1", &[]),
+            Refusal::Limit => form::fill(rt, b"LIMIT, 2", &[]),
+            Refusal::Object(at) => form::fill(rt, b"OBJECT, 3, at #", &[at as u64]),
+            Refusal::Class(at) => form::fill(rt, b"CLASS, 4, at #", &[at as u64]),
+            Refusal::Copied(at) => form::fill(rt, b"COPIED, 5, at #", &[at as u64]),
+            Refusal::Span(at) => form::fill(rt, b"SPAN, 6, at #", &[at as u64]),
+            Refusal::Root(at) => form::fill(rt, b"ROOT, 7, at #", &[at as u64]),
+            Refusal::Places => form::fill(rt, b"PLACES, 8", &[]),
+            Refusal::Room(buffer) => form::fill(rt, b"ROOM, 9, buffer #", &[buffer as u64]),
             Refusal::Parts { column, position } => {
-                write!(f, "PARTS, 10, column {column}, position {position}")
+                let numbers = [column as u64, position as u64];
+                form::fill(rt, b"PARTS, 10, column #, position #", &numbers)
             }
-            Refusal::Index(at) => write!(f, "INDEX, 11, at {at}"),
-            Refusal::Columns(at) => write!(f, "COLUMNS, 12, at {at}"),
+            Refusal::Index(at) => form::fill(rt, b"INDEX, 11, at #", &[at as u64]),
+            Refusal::Columns(at) => form::fill(rt, b"COLUMNS, 12, at #", &[at as u64]),
         }
+    }
+
+    // Some words and the refusal, on a line of their own.
+    pub fn line(self, rt: &impl Print, text: &str) -> io::Result<()> {
+        print::word(rt, text.as_bytes())?;
+        self.tell(rt)?;
+        print::word(rt, b"\n")?;
+        Ok(())
     }
 }

@@ -57,7 +57,7 @@ fn one(
     }
     // The title as the text has it.
     print::word(rt, part(text, start, end))?;
-    println!(rt)?;
+    print::word(rt, b"\n")?;
     let read = lists::all(text, text::behind(text, end), bytes, halves, words, cuts)?;
     built(rt, text, read.next, bytes, halves, words, cuts)
 }

@@ -4,7 +4,7 @@ use case_graph::case;
 use case_graph::case::{BLOCKS, Numbers, ROWS};
 use case_text::arrays::{EDGES, NAMED, room};
 use case_text::column::used;
-use case_text::{arrays, column};
+use case_text::{arrays, column, form};
 use std::io;
 
 // The columns of a case, each with the room that the case names.
@@ -110,10 +110,10 @@ fn tell_policy(rt: &impl Print, n: Numbers) -> io::Result<()> {
     if !n.several {
         return Ok(());
     }
-    println!(rt;
-        "  policy: keep soft {}, keep weak {}",
-        u8::from(n.soft),
-        u8::from(n.weak)
+    form::fill(
+        rt,
+        b"  policy: keep soft #, keep weak #\n",
+        &[u64::from(n.soft), u64::from(n.weak)],
     )
 }
 

@@ -82,14 +82,16 @@ fn count_read(labels: &[u32], codes: Codes<'_>, from: usize, to: usize) -> usize
 
 // Of each object, how many of its labels are read back from their codes.
 fn read_back(rt: &impl Print, offsets: &[u64], labels: &[u32], codes: Codes<'_>) -> io::Result<()> {
-    print!(rt; "  read back")?;
+    print::word(rt, b"  read back")?;
     for o in 1..offsets.len() {
         let from = offsets[o - 1] as usize;
         let to = offsets[o] as usize;
         let same = count_read(labels, codes, from, to);
-        print!(rt; " {same}")?;
+        print::word(rt, b" ")?;
+        print::number(rt, same as u64)?;
     }
-    println!(rt)
+    print::word(rt, b"\n")?;
+    Ok(())
 }
 
 // After an acceptance.

@@ -46,7 +46,7 @@ fn title(
         let why = Fault::TitleNotClosed;
         return Err(Ended::from(Malformed { at: s.at, why }));
     }
-    println!(rt)?;
+    print::word(rt, b"\n")?;
     print::word(rt, part(text, start, end))?;
     *cuts = *kept;
     s.at = text::behind(text, end);
@@ -113,7 +113,9 @@ fn word(
             *kept = *cuts;
             s.kept = s.used;
         }
-        None => print!(rt; "; no such call")?,
+        None => {
+            print::word(rt, b"; no such call")?;
+        }
     }
     s.at = end;
     Ok(s)
@@ -171,7 +173,7 @@ fn run(rt: &impl Print, text: &[u8]) -> io::Result<()> {
     if TEXT <= text.len() {
         let at = text.len();
         let why = Fault::TextTooLong;
-        return println!(rt; "{}", Malformed { at, why });
+        return Malformed { at, why }.tell(rt);
     }
     let done = every(
         rt,
@@ -183,7 +185,8 @@ fn run(rt: &impl Print, text: &[u8]) -> io::Result<()> {
         &mut kept,
     );
     fault::tell(rt, done)?;
-    println!(rt)
+    print::word(rt, b"\n")?;
+    Ok(())
 }
 
 fn main(rt: HostRuntime) -> io::Result<()> {

@@ -35,10 +35,12 @@ fn row(offsets: &[u32], labels: &[u32], weak: &[u8], k: usize) -> SlotRow {
 }
 
 fn answer(rt: &impl Print, filled: Result<usize, FillError>) -> io::Result<()> {
-    match filled {
-        Ok(rows) => println!(rt; "; rows {rows}"),
-        Err(FillError::Room(buffer)) => println!(rt; "; refused: ROOM, 9, buffer {buffer}"),
-    }
+    let (text, number) = match filled {
+        Ok(rows) => ("; rows ", rows),
+        Err(FillError::Room(buffer)) => ("; refused: ROOM, 9, buffer ", buffer),
+    };
+    print::line(rt, text.as_bytes(), number as u64)?;
+    Ok(())
 }
 
 fn fill(

@@ -7,8 +7,11 @@ use store::{CodedOffsets, Offsets, OffsetsError};
 
 fn show_offset(rt: &impl Print, answer: Result<u64, ReadError>) -> io::Result<()> {
     match answer {
-        Ok(v) => println!(rt; "    offset {v}"),
-        Err(e) => println!(rt; "    refused: {}", Refused::from(e)),
+        Ok(v) => {
+            print::line(rt, b"    offset ", v)?;
+            Ok(())
+        }
+        Err(e) => Refused::from(e).line(rt, "    refused: "),
     }
 }
 
@@ -52,7 +55,7 @@ fn back(
         },
         Err(OffsetsError::Room(k)) => Refusal::Room(k),
     };
-    println!(rt; "  refused: {}", Refused(r))
+    Refused(r).line(rt, "  refused: ")
 }
 
 // Codes the offsets and reads them back.
@@ -81,7 +84,10 @@ pub(crate) fn show(rt: &impl Print) -> io::Result<()> {
     let mut short: [u16; 4] = [9; 4];
     let mut at: [u32; 1] = [9; 1];
     let mut value: [u64; 1] = [9; 1];
-    println!(rt; "\n(m) differences 65534 and 65535 from the base of a block")?;
+    print::word(
+        rt,
+        b"\n(m) differences 65534 and 65535 from the base of a block\n",
+    )?;
     there_and_back(
         rt,
         &[7, 65541, 65542],
@@ -90,7 +96,10 @@ pub(crate) fn show(rt: &impl Print) -> io::Result<()> {
         &mut at,
         &mut value,
     )?;
-    println!(rt; "  a value below its base, and one value more than there is room for")?;
+    print::word(
+        rt,
+        b"  a value below its base, and one value more than there is room for\n",
+    )?;
     there_and_back(rt, &[7, 8, 6], &mut bases, &mut short, &mut at, &mut value)?;
     there_and_back(
         rt,

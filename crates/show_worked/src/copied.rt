@@ -7,11 +7,14 @@ use std::io;
 
 fn show_id(rt: &impl Print, answer: Result<u64, IdError>) -> io::Result<()> {
     let r = match answer {
-        Ok(id) => return println!(rt; "    id {id}"),
+        Ok(id) => {
+            print::line(rt, b"    id ", id)?;
+            return Ok(());
+        }
         Err(IdError::Index(i)) => Refusal::Index(i),
         Err(IdError::Copied(i)) => Refusal::Copied(i),
     };
-    println!(rt; "    refused: {}", Refused(r))
+    Refused(r).line(rt, "    refused: ")
 }
 
 // Every id read back, and the first place past them.
@@ -46,7 +49,7 @@ fn left(
             used(escape_places, n.escapes),
             used(escape_ids, n.escapes),
         ),
-        Err(IdsError::Room(k)) => println!(rt; "  refused: {}", Refused(Refusal::Room(k))),
+        Err(IdsError::Room(k)) => Refused(Refusal::Room(k)).line(rt, "  refused: "),
     }
 }
 
@@ -67,8 +70,11 @@ pub(crate) fn show(rt: &impl Print) -> io::Result<()> {
     let mut codes: [u32; 5] = [9; 5];
     let mut escape_places: [u64; 1] = [9; 1];
     let mut escape_ids: [u64; 1] = [9; 1];
-    println!(rt; "\n(h) copied ids over base 256, read back from their codes")?;
+    print::word(
+        rt,
+        b"\n(h) copied ids over base 256, read back from their codes\n",
+    )?;
     there_and_back(rt, &ids, &mut codes, &mut escape_places, &mut escape_ids)?;
-    println!(rt; "  the same without room for the escape")?;
+    print::word(rt, b"  the same without room for the escape\n")?;
     there_and_back(rt, &ids, &mut codes, &mut [], &mut escape_ids)
 }

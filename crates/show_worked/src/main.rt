@@ -8,7 +8,7 @@ mod questions;
 use std::io;
 
 fn main(rt: HostRuntime) -> io::Result<()> {
-    println!(rt; "The worked dump of document 01")?;
+    print::word(&rt, b"The worked dump of document 01\n")?;
     copied::show(&rt)?;
     blocked::show(&rt)?;
     questions::show(&rt)

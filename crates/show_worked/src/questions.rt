@@ -1,5 +1,6 @@
 // Cases (i) and (j): questions to the finished columns, which cases (a) to (d) give.
 use ask_span::Graph;
+use case_text::form;
 use case_text::refusal::Refused;
 use labels::Codes;
 use rules::{Label, ReadError};
@@ -8,17 +9,17 @@ use store::Offsets;
 
 fn target(rt: &impl Print, found: Result<Option<u32>, ReadError>) -> io::Result<()> {
     match found {
-        Ok(Some(t)) => println!(rt; " object {t}"),
-        Ok(None) => println!(rt; " nothing"),
-        Err(e) => println!(rt; " refused: {}", Refused::from(e)),
+        Ok(Some(t)) => form::fill(rt, b" object #\n", &[u64::from(t)]),
+        Ok(None) => form::fill(rt, b" nothing\n", &[]),
+        Err(e) => Refused::from(e).line(rt, " refused: "),
     }
 }
 
 fn label(rt: &impl Print, found: Result<Option<Label>, ReadError>) -> io::Result<()> {
     match found {
-        Ok(Some(l)) => println!(rt; " label {}", l.0),
-        Ok(None) => println!(rt; " nothing"),
-        Err(e) => println!(rt; " refused: {}", Refused::from(e)),
+        Ok(Some(l)) => form::fill(rt, b" label #\n", &[u64::from(l.0)]),
+        Ok(None) => form::fill(rt, b" nothing\n", &[]),
+        Err(e) => Refused::from(e).line(rt, " refused: "),
     }
 }
 
@@ -29,7 +30,7 @@ fn field(
     object: usize,
     label: u32,
 ) -> io::Result<()> {
-    print!(rt; "{question}")?;
+    print::word(rt, question.as_bytes())?;
     let found = ask_field::field(graph.strong(), object, label);
     target(rt, found)
 }
@@ -41,7 +42,7 @@ fn referent(
     object: usize,
     label: u32,
 ) -> io::Result<()> {
-    print!(rt; "{question}")?;
+    print::word(rt, question.as_bytes())?;
     let found = ask_field::referent(graph, object, label);
     target(rt, found)
 }
@@ -53,7 +54,7 @@ fn exact_label(
     object: usize,
     edge: usize,
 ) -> io::Result<()> {
-    print!(rt; "{question}")?;
+    print::word(rt, question.as_bytes())?;
     let found = ask_label::exact_label(graph.strong(), object, edge);
     label(rt, found.map(Some))
 }
@@ -65,14 +66,15 @@ fn label_of(
     object: usize,
     target: u32,
 ) -> io::Result<()> {
-    print!(rt; "{question}")?;
+    print::word(rt, question.as_bytes())?;
     let found = ask_label::label_of(graph.strong(), object, target);
     label(rt, found)
 }
 
 fn list(rt: &impl Print, own_targets: &[u32], own_labels: &[u32], count: usize) -> io::Result<()> {
     for (target, label) in own_targets.iter().zip(own_labels).take(count) {
-        println!(rt; "    object {target}\n      by label {label}")?;
+        let numbers = [u64::from(*target), u64::from(*label)];
+        form::fill(rt, b"    object #\n      by label #\n", &numbers)?;
     }
     Ok(())
 }
@@ -86,15 +88,15 @@ fn edges(
     own_targets: &mut [u32],
     own_labels: &mut [u32],
 ) -> io::Result<()> {
-    print!(rt; "{question}")?;
+    print::word(rt, question.as_bytes())?;
     match ask_edges::object_edges(graph.strong(), object, own_targets, own_labels) {
         Ok(n) => list(rt, own_targets, own_labels, n),
-        Err(e) => println!(rt; "    refused: {}", Refused::from(e)),
+        Err(e) => Refused::from(e).line(rt, "    refused: "),
     }
 }
 
 fn all_fields(rt: &impl Print, graph: Graph<'_>) -> io::Result<()> {
-    println!(rt; "\n(i) fields, found by their codes")?;
+    print::word(rt, b"\n(i) fields, found by their codes\n")?;
     field(
         rt,
         "  field(2, ARRAY_ELEMENT):",
@@ -115,14 +117,17 @@ fn all_fields(rt: &impl Print, graph: Graph<'_>) -> io::Result<()> {
 }
 
 fn all_referents(rt: &impl Print, graph: Graph<'_>) -> io::Result<()> {
-    println!(rt; "\n(j) a weak referent, where there is no such field")?;
+    print::word(rt, b"\n(j) a weak referent, where there is no such field\n")?;
     referent(rt, "  referent(1, 1):", graph, 1, 1)?;
     referent(rt, "  referent(0, 0):", graph, 0, 0)?;
     referent(rt, "  referent(0, 1):", graph, 0, 1)
 }
 
 fn all_labels(rt: &impl Print, graph: Graph<'_>) -> io::Result<()> {
-    println!(rt; "\nexact labels of edges, and of the first edge to a target")?;
+    print::word(
+        rt,
+        b"\nexact labels of edges, and of the first edge to a target\n",
+    )?;
     exact_label(rt, "  exact_label(2, 0):", graph, 2, 0)?;
     exact_label(rt, "  exact_label(3, 1):", graph, 3, 1)?;
     exact_label(rt, "  exact_label(3, 2):", graph, 3, 2)?;
@@ -133,7 +138,7 @@ fn all_labels(rt: &impl Print, graph: Graph<'_>) -> io::Result<()> {
 fn all_edges(rt: &impl Print, graph: Graph<'_>) -> io::Result<()> {
     let mut own_targets: [u32; 3] = [9; 3];
     let mut own_labels: [u32; 3] = [9; 3];
-    println!(rt; "\nall edges of an object at once, in room for three")?;
+    print::word(rt, b"\nall edges of an object at once, in room for three\n")?;
     edges(
         rt,
         "  of object 3:\n",
