@@ -7,8 +7,8 @@ use native.Mathlib.Numerals.{add-one}
 use native.Mathlib.Omega.{arith}
 use borrow.Author.Tests.{ltb-true, ltb-false, lt-ltb, le-ltb}
 use lib.Dec.{ltb}
-use lib.ListN.{length, get_or, take, drop, length-map, length-take}
-use lib.Seq.{take-suc, take-length, length-take-le, ext_get_or, get_or-take}
+use lib.ListN.{length, get_or, set, take, drop, length-map, length-take}
+use lib.Seq.{take-suc, take-length, length-take-le, ext_get_or, get_or-take, drop-cons, set_at, append_snoc}
 use Rattle.columns.specs.Lists.{◌!◌, any_of, tab}
 use Rattle.columns.specs.Columns.{zeros, over, cleared, padded, accepts, leaves}
 use Rattle.columns.proofs.Lists.{map_at, tab-length, tab-at}
@@ -31,6 +31,13 @@ rows_more f rows room i h =
     let l : i < room = omega (arith, length-take room rows) in
     let m : i < length rows = omega (arith, length-take room rows) in
     rw (get_or-take room rows i no_row l, add-one i, take-suc rows i no_row m) (map-append f (take i rows) (get_or rows i no_row ∷ []))
+
+-- one number more of those that are copied to the front of a column
+pub copied_more : {A : Type 0} (xs d₀ : List A) {d : List A} (i : ℕ) (v : A) → v ≡ get_or xs i v → i < length xs → i < length d₀ → d ≡ take i xs ++ drop i d₀
+    → set d i v ≡ take (i + 1) xs ++ drop (i + 1) d₀
+copied_more xs d₀ {d} i v e l m c =
+    let more : take (i + 1) xs ≡ take i xs ++ (v ∷ []) = rw (add-one i, take-suc xs i v l, ← e) refl in
+    rw (c, drop-cons d₀ i v m, set_at (take i xs) _ _ v i (length-take-le i xs (omega arith)), more, add-one i, append_snoc)
 
 -- a column after the first k rows were written to its front
 abbrev pub Wrote : (SlotRow → ℕ) → List SlotRow → ℕ → List ℕ → List ℕ → Type 0

@@ -12,13 +12,15 @@ pub(crate) fn room_for(n: usize, a: usize, b: usize, c: usize) -> usize
     if a.min(b).min(c) < n { 0 } else { n }
 }
 
-// The first n numbers of a column, written over the front of another.
+// The first n numbers of a column, written over the front of another, number by number: std's copy would ask a host for C's `memmove`.
 pub(crate) fn copy<T: Copy>(from: &[T], n: usize, to: &mut [T])
     requires n_in_bounds { n ≤ length from.now }
     requires n_in_bounds_2 { n ≤ length to.old }
     ensures { to.new ≡ take n from.now ++ drop n to.old }
 {
-    to[..n].copy_from_slice(&from[..n]);
+    for i in 0..n {
+        to[i] = from[i];
+    }
 }
 
 // Clears the ends behind the rows written, which is all where there is no room, and answers.
