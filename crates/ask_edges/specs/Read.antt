@@ -8,6 +8,6 @@ use Rattle.ask_reader.specs.declared.Step.{Step}
 pub use Rattle.ask_reader.specs.Read.{stored, read_edge_says, with_label}
 unfoldable pub use Rattle.ask_reader.specs.Read.{step_at, edge_back}
 
--- The reader over an object's own parts: those that `targets_of` and `codes_of` give.
+-- The reader over an object's own parts: those that `part_of` gives of targets and codes.
 abbrev pub stands_in : Columns → ℕ → ℕ → Option Step
 stands_in c o k = step_at (span_part (span_in c o) c.targets) (span_part (span_in c o) c.labels.codes) k

@@ -83,7 +83,8 @@ pub fn read_code(
 }
 
 impl<'a> Codes<'a> {
-    // The label of an edge by its code, as `read_code`.
+    // The label of an edge by its code, as `read_code`. Compiled into each of its callers: eight words would go through memory with each label.
+    #[inline(always)]
     fn read(self, edge: usize, next: u32) -> Result<Label, Unread>
         requires { edge < length self.codes.now }
         ensures { read_says result ≡ edge_label_back (coded_in self.entry) edge next }
