@@ -40,6 +40,16 @@ unfolding halve
 halve-one zero xs x lo n h = refl
 halve-one (suc f) xs x lo n h = rw (front-one xs x lo n h) (halve-one f xs x lo (n - n / 2) (omega arith))
 
+-- what the halvings leave on the way that the middle one says, they leave of the whole
+module _ (f : ℕ) (xs : List ℕ) (x lo n r : ℕ) where
+  pub halve_below : xs ! (lo + n / 2) < x → r ≡ halve f xs x (lo + n / 2) (n - n / 2) → r ≡ halve (suc f) xs x lo n
+  unfolding halve
+  halve_below h e = rw (front_below xs x lo n h) e
+
+  pub halve_above : x ≤ xs ! (lo + n / 2) → r ≡ halve f xs x lo (n - n / 2) → r ≡ halve (suc f) xs x lo n
+  unfolding halve
+  halve_above h e = rw (front_above xs x lo n h) e
+
 -- among the n numbers from lo on the bisection that is left ends at r
 pub record Bisecting (xs : List ℕ) (x lo n r : ℕ) : Type 0 where
   pub not_none : 0 < n
@@ -71,26 +81,21 @@ module _ {xs : List ℕ} {x lo n r : ℕ} (b : Bisecting xs x lo n r) where
   pub bisecting_end : n ≤ 1 → behind xs x lo ≡ r
   bisecting_end h = ap (behind xs x) (sym (halve-one b.fuel xs x lo n h)) ∙ b.ends
 
--- two halvings leave a fourth, and four a sixteenth
-left_two : (n : ℕ) → n - n / 2 - (n - n / 2) / 2 ≡ (n + 3) / 4
-left_two n = omega arith
-
-left-four : (n : ℕ) → ((n + 3) / 4 + 3) / 4 ≡ (n + 15) / 16
-left-four n = omega arith
-
-pub bisecting_four : {xs : List ℕ} {x lo n r : ℕ} → Bisecting xs x lo n r → (p : ℕ) → p ≡ halve 4 xs x lo n → Bisecting xs x p ((n + 15) / 16) r
+-- three halvings leave an eighth
+pub bisecting_three : {xs : List ℕ} {x lo n r : ℕ} → Bisecting xs x lo n r → (p : ℕ) → p ≡ halve 3 xs x lo n → Bisecting xs x p ((n + 7) / 8) r
 unfolding halve
-bisecting_four {xs} {x} {lo} {n} {r} b p s =
+bisecting_three {xs} {x} {lo} {n} {r} b p s =
     let half = n - n / 2 in
-    let e = left_two (half - half / 2) ∙ ap (λ (m : ℕ). (m + 3) / 4) (left_two n) ∙ left-four n in
-    rw (s, ← e) (bisecting_on (bisecting_on (bisecting_on (bisecting_on b))))
+    let e : half - half / 2 - (half - half / 2) / 2 ≡ (n + 7) / 8 = omega arith in
+    rw (s, ← e) (bisecting_on (bisecting_on (bisecting_on b)))
 
 -- twelve halvings of at most 4,096 leave one number
-pub bisecting_twelve : {xs : List ℕ} {x lo n r : ℕ} → Bisecting xs x lo n r → n ≤ 4096 → (a b p : ℕ)
-    → a ≡ halve 4 xs x lo n → b ≡ halve 4 xs x a ((n + 15) / 16) → p ≡ halve 4 xs x b (((n + 15) / 16 + 15) / 16)
-    → (p < length xs) × (behind xs x p ≡ r)
-bisecting_twelve h few a b p ea eb ep =
-    let d = bisecting_four (bisecting_four (bisecting_four h a ea) b eb) p ep in (omega (arith, d.not_none, d.within), bisecting_end d (omega arith))
+pub bisecting_twelve : {xs : List ℕ} {x lo n r : ℕ} → Bisecting xs x lo n r → n ≤ 4096 → (a b c p : ℕ)
+    → a ≡ halve 3 xs x lo n → b ≡ halve 3 xs x a ((n + 7) / 8) → c ≡ halve 3 xs x b (((n + 7) / 8 + 7) / 8)
+    → p ≡ halve 3 xs x c ((((n + 7) / 8 + 7) / 8 + 7) / 8) → (p < length xs) × (behind xs x p ≡ r)
+bisecting_twelve h most a b c p ea eb ec ep =
+    let d = bisecting_three (bisecting_three (bisecting_three (bisecting_three h a ea) b eb) c ec) p ep in
+    (omega (arith, d.not_none, d.within), bisecting_end d (omega arith))
 
 halve_within : (f : ℕ) (xs : List ℕ) (x lo n : ℕ) → 0 < n → halve f xs x lo n < lo + n
 unfolding halve

@@ -161,25 +161,35 @@ fn front<T: Number>(xs: &[T], x: u64, lo: usize, n: usize) -> usize
     if xs[middle].wide() < x { middle } else { lo }
 }
 
-// Four halvings; one number is not halved.
-fn four<T: Number>(xs: &[T], x: u64, lo: usize, n: usize) -> usize
+// Two halvings. The numbers on both ways on are read at once, so that none waits for the one before: in a long column those waits are most of the time.
+fn two<T: Number>(xs: &[T], x: u64, lo: usize, n: usize) -> usize
     requires { (0 < n) × (lo + n ≤ length (T.numbers xs.now)) }
-    ensures { result ≡ halve 4 (T.numbers xs.now) x lo n }
+    ensures { result ≡ halve 2 (T.numbers xs.now) x lo n }
+{
+    let middle = lo + n / 2;
+    let half = n - n / 2;
+    let below = front(xs, x, lo, half);
+    let above = front(xs, x, middle, half);
+    if xs[middle].wide() < x { above } else { below }
+}
+
+// Three halvings; one number is not halved.
+fn three<T: Number>(xs: &[T], x: u64, lo: usize, n: usize) -> usize
+    requires { (0 < n) × (lo + n ≤ length (T.numbers xs.now)) }
+    ensures { result ≡ halve 3 (T.numbers xs.now) x lo n }
 {
     if n == 1 {
         return lo;
     }
+    let middle = lo + n / 2;
     let half = n - n / 2;
-    let quarter = half - half / 2;
-    let eighth = quarter - quarter / 2;
-    let a = front(xs, x, lo, n);
-    let b = front(xs, x, a, half);
-    let c = front(xs, x, b, quarter);
-    front(xs, x, c, eighth)
+    let below = two(xs, x, lo, half);
+    let above = two(xs, x, middle, half);
+    if xs[middle].wide() < x { above } else { below }
 }
 
 // Where bisection ends, on any column: what a reader of columns that may hold anything goes by. In a loop a compiler turns a choice of numbers into
-// branches, of which half are guessed wrong. So the last twelve halvings, and there are seldom more, stand in a row.
+// branches, of which half are guessed wrong. So the last twelve halvings, and there are seldom more, stand in a row, by threes.
 pub fn bisect<T: Number>(xs: &[T], x: u64) -> usize
     ensures { result ≡ bisect (T.numbers xs.now) x }
 {
@@ -192,11 +202,13 @@ pub fn bisect<T: Number>(xs: &[T], x: u64) -> usize
         lo = front(xs, x, lo, n);
         n -= n / 2;
     }
-    let few = (n + 15) / 16;
-    let last = (few + 15) / 16;
-    let a = four(xs, x, lo, n);
-    let b = four(xs, x, a, few);
-    let p = four(xs, x, b, last);
+    let some = (n + 7) / 8;
+    let few = (some + 7) / 8;
+    let last = (few + 7) / 8;
+    let a = three(xs, x, lo, n);
+    let b = three(xs, x, a, some);
+    let c = three(xs, x, b, few);
+    let p = three(xs, x, c, last);
     if xs[p].wide() < x { p + 1 } else { p }
 }
 

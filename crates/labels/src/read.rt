@@ -16,7 +16,8 @@ fn fits(label: u32, code: u16) -> bool
     Label(label).is_element() == (ELEMENT <= code)
 }
 
-// The label of an edge whose code is escaped.
+// The label of an edge whose code is escaped. Compiled into each of its callers, as `read_code`.
+#[inline(always)]
 fn escape(escape_at: &[u64], escape_label: &[u32], edge: u64, code: u16) -> Result<Label, Unread>
     ensures { read_says result ≡ row_back escape_at.now escape_label.now edge code (bisect escape_at.now edge) }
 {
@@ -62,7 +63,9 @@ fn field(fields: &[u32], at: usize) -> Result<Label, Unread>
     Ok(Label(label))
 }
 
-// The label of an edge by its code, where an element would have the index `next` at least.
+// The label of an edge by its code, where an element would have the index `next` at least. Compiled into each of its callers: else nine words would go through
+// memory with each label.
+#[inline(always)]
 pub fn read_code(
     code: u16,
     edge: u64,
@@ -83,7 +86,7 @@ pub fn read_code(
 }
 
 impl<'a> Codes<'a> {
-    // The label of an edge by its code, as `read_code`. Compiled into each of its callers: eight words would go through memory with each label.
+    // The label of an edge by its code, as `read_code`. Compiled into each of its callers as well.
     #[inline(always)]
     fn read(self, edge: usize, next: u32) -> Result<Label, Unread>
         requires { edge < length self.codes.now }
